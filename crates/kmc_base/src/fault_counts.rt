@@ -1,0 +1,45 @@
+ghost use Rattle.std.specs.Prelude.{◌≡◌, ℕ};
+
+use crate::ids::{FileId, OutId};
+
+/// How often each input file and each output has failed: counts from 0 that stand still at the
+/// end of 64 bits.
+#[derive(Clone, Copy, Debug, PartialEq, Eq)]
+pub struct FaultCounts {
+    /// By input file, in the order of `FileId`.
+    pub reads: [u64; 5],
+    /// By output, in the order of `OutId`.
+    pub writes: [u64; 3],
+}
+
+impl FaultCounts {
+    ghost use Rattle.std.specs.Prelude.{replicate};
+    ghost use Rattle.kmc_base.specs.FaultCounts.{read_failed, write_failed, reads_of, writes_of};
+
+    /// No fault yet.
+    pub fn none() -> Self
+        ensures reads { (file : _) → reads_of result file ≡ 0 }
+        ensures writes { (out : _) → writes_of result out ≡ 0 }
+    {
+        FaultCounts {
+            reads: [0; 5],
+            writes: [0; 3],
+        }
+    }
+
+    /// Counts one more fault of reading a file.
+    pub fn read_failed(&mut self, file: FileId)
+        ensures { self.new ≡ read_failed self.old file }
+    {
+        let place = file as usize;
+        self.reads[place] = self.reads[place].saturating_add(1);
+    }
+
+    /// Counts one more fault of an output.
+    pub fn write_failed(&mut self, out: OutId)
+        ensures { self.new ≡ write_failed self.old out }
+    {
+        let place = out as usize;
+        self.writes[place] = self.writes[place].saturating_add(1);
+    }
+}

@@ -1,0 +1,68 @@
+ghost use Rattle.std.specs.Prelude.{◌≡◌, ℕ, ◌++◌, List, Option, OnOk, OnErr, IfSome, IsErrOf};
+ghost use Rattle.kmc_base.specs.Faults.{Rose, NoneFell};
+ghost use Rattle.kmc_base.specs.Files.{Files, Loads, file_of};
+ghost use Rattle.kmc_base.specs.Outs.{Outs, MayAppend, MayBegin, appended, begun};
+ghost use Rattle.kmc_base.specs.Told.{Tells};
+ghost use Rattle.kmc_base.specs.declared.ids.FileId.{FileId};
+ghost use Rattle.kmc_base.specs.declared.ids.OutId.{OutId};
+
+use crate::error::Failed;
+use crate::ids::{FileId, OutId};
+use std::alloc::Global;
+
+/// Why a file was not loaded.
+#[derive(Clone, Copy, Debug, PartialEq, Eq, Hash)]
+pub enum LoadFault {
+    /// There is no such file.
+    Absent,
+    /// It has more bytes than were asked for.
+    TooLong,
+    /// Reading it failed.
+    Failed,
+    /// There was no memory for it.
+    OutOfMemory,
+}
+
+/// The folder that a run reads its deck from and writes its outputs to.
+///
+/// What its files and outputs hold is told optionally: a real directory tells nothing.
+pub trait Folder {
+    /// How often reading each file has failed.
+    ghost read_faults: { Self → FileId → ℕ };
+
+    /// How often beginning or writing each output has failed.
+    ghost write_faults: { Self → OutId → ℕ };
+
+    /// The bytes of its input files, where it tells them.
+    ghost files: { Self → Option Files };
+
+    /// The bytes of its outputs, where it tells them.
+    ghost outs: { Self → Option Outs };
+
+    /// Reads a file of at most `max` bytes, whole.
+    fn load(&mut self, alloc: Global, file: FileId, max: usize) -> Result<Vec<u8>, LoadFault>
+        ensures answer { IfSome (files self.old) (λ told. Loads (file_of told file) max result) }
+        ensures cause { IsErrOf result LoadFault.Failed → Rose (read_faults self.old file) (read_faults self.new file) }
+        ensures read_counts { NoneFell (read_faults self.old) (read_faults self.new) }
+        ensures write_counts { NoneFell (write_faults self.old) (write_faults self.new) }
+        ensures files { files self.new ≡ files self.old }
+        ensures outs { outs self.new ≡ outs self.old };
+
+    /// Makes an output empty, and makes it where it is not there.
+    fn begin(&mut self, out: OutId) -> Result<(), Failed>
+        ensures ok { OnOk result (Tells (outs self.old) (outs self.new) (λ then now. now ≡ begun out then)) }
+        ensures err { OnErr result (Tells (outs self.old) (outs self.new) (MayBegin out)) }
+        ensures cause { OnErr result (Rose (write_faults self.old out) (write_faults self.new out)) }
+        ensures read_counts { NoneFell (read_faults self.old) (read_faults self.new) }
+        ensures write_counts { NoneFell (write_faults self.old) (write_faults self.new) }
+        ensures files { files self.new ≡ files self.old };
+
+    /// Adds a piece at the end of an output. An output that is not there counts as empty.
+    fn append(&mut self, out: OutId, piece: &[u8]) -> Result<(), Failed>
+        ensures ok { OnOk result (Tells (outs self.old) (outs self.new) (λ then now. now ≡ appended out piece.now then)) }
+        ensures err { OnErr result (Tells (outs self.old) (outs self.new) (MayAppend out piece.now)) }
+        ensures cause { OnErr result (Rose (write_faults self.old out) (write_faults self.new out)) }
+        ensures read_counts { NoneFell (read_faults self.old) (read_faults self.new) }
+        ensures write_counts { NoneFell (write_faults self.old) (write_faults self.new) }
+        ensures files { files self.new ≡ files self.old };
+}

@@ -1,0 +1,25 @@
+ghost use Rattle.std.specs.Prelude.{◌≡◌, ℕ, ◌++◌, ◌≤◌, List, Option, OnOk, OnErr, take};
+ghost use Rattle.kmc_base.specs.Faults.{Rose};
+ghost use Rattle.kmc_base.specs.Told.{Tells};
+
+use crate::error::Failed;
+
+/// The screen that a run prints to.
+///
+/// What it has taken is told optionally: a real terminal tells nothing.
+pub trait Sink {
+    /// How often it has failed.
+    ghost faults: { Self → ℕ };
+
+    /// The bytes that it has taken, where it tells them.
+    ghost taken: { Self → Option (List ℕ) };
+
+    /// Takes a piece.
+    fn put(&mut self, piece: &[u8]) -> Result<(), Failed>
+        ensures ok { OnOk result (Tells (taken self.old) (taken self.new) (λ then now. now ≡ then ++ piece.now)) }
+
+        // A front of the piece was taken.
+        ensures err { OnErr result (Tells (taken self.old) (taken self.new) (λ then now. ((n : ℕ) × (now ≡ then ++ take n piece.now)))) }
+        ensures cause { OnErr result (Rose (faults self.old) (faults self.new)) }
+        ensures counts { faults self.old ≤ faults self.new };
+}
