@@ -1,3 +1,4 @@
+pub mod Entries
 pub mod FaultCounts
 pub mod Faults
 pub mod Files
