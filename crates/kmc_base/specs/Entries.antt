@@ -46,13 +46,14 @@ chosen old fired fresh = kept_or fired (entry_at fresh.code old) fresh
 abbrev pub comes_before : ℕ × ℕ → ℕ × ℕ → Bool
 comes_before a b = if a.0 == b.0 then nat_lt a.1 b.1 else nat_lt a.0 b.0
 
+-- the (time, code) of a code that fires at a moment
+abbrev pub moment_at : When → ℕ → Option (ℕ × ℕ)
+moment_at (At t) code = Some (t, code)
+moment_at Never code = None
+
 -- the (time, code) of an entry that has a time
 abbrev pub moment_of : Entry → Option (ℕ × ℕ)
 moment_of e = moment_at e.when e.code
-  where
-    moment_at : When → ℕ → Option (ℕ × ℕ)
-    moment_at (At t) code = Some (t, code)
-    moment_at Never code = None
 
 -- the one of two that comes first, if there is one
 abbrev pub first_of_two : Option (ℕ × ℕ) → Option (ℕ × ℕ) → Option (ℕ × ℕ)

@@ -16,6 +16,8 @@ mod moment;
 mod numbered;
 mod output;
 mod sink;
+#[cfg(test)]
+mod tests;
 
 pub use entry::Entry;
 pub use error::{Failed, OutOfMemory};
