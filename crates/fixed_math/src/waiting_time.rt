@@ -1,0 +1,68 @@
+ghost use Rattle.std.specs.Prelude.{◌≡◌, ◌^◌, ◌<◌, ◌≤◌, ◌≤ℤ◌, pos, unsigned_abs};
+ghost use Rattle.std.specs.Option.{ForSome};
+ghost use Rattle.fixed_math.specs.Gap.{gap_of};
+ghost use Rattle.fixed_math.specs.WaitingTime.{IsLater, scaled_down, time_of};
+
+use crate::exponential::exp2;
+use crate::logarithm::log2;
+use kmc_base::When;
+
+/// The natural logarithm of 2, in units of 2^-30.
+const LN_2: u128 = 744_261_118;
+
+/// The base-2 logarithm of 10^18, which is the number of as in a second, in units of 2^-30.
+const LOG2_OF_ATTO: i64 = 64_204_076_376;
+
+/// The greatest exponent of a mean wait that still ends.
+const MAX_EXPONENT: i64 = 120;
+
+/// The end of time, in as.
+const END_OF_TIME: u128 = 1_000_000_000_000_000_000_000_000_000_000;
+
+/// The unit exponential variate of the draw `w`, in units of 2^-30.
+pub fn gap(w: u64) -> u64
+    ensures value { result ≡ gap_of w }
+    ensures range { result ≤ 47632711552 }
+{
+    let below = (64 << 30) - log2(u128::from(w) + 1);
+    ((below as u128 * LN_2) >> 30) as u64
+}
+
+/// When an instance fires, in as, whose rate in 1/s has the base-2 logarithm `lg` in units of 2^-30 (None
+/// where it has no rate) and whose wait is drawn by `w` at the time `now`.
+pub fn wait(lg: Option<i64>, w: u64, now: u128) -> When
+    requires rate { ForSome lg (λ l. unsigned_abs l ≤ 2 ^ 42) }
+    requires time { now ≤ 10 ^ 30 }
+    ensures value { result ≡ time_of lg w now }
+    ensures later { IsLater now result }
+{
+    let Some(lg) = lg else { return When::Never };
+    let (mantissa, exponent) = exp2(LOG2_OF_ATTO - lg);
+    if exponent > MAX_EXPONENT {
+        return When::Never;
+    }
+    let product = u128::from(gap(w)) * u128::from(mantissa);
+    let time = now + scaled(product, exponent - 60).max(1);
+    if time > END_OF_TIME {
+        When::Never
+    } else {
+        When::At(time)
+    }
+}
+
+/// `number * 2^exponent`, rounded down.
+fn scaled(number: u128, exponent: i64) -> u128
+    requires number { number < 2 ^ 67 }
+    requires exponent { exponent ≤ℤ pos 60 }
+    ensures value { result ≡ scaled_down number exponent }
+    ensures small { result < 2 ^ 127 }
+{
+    let places = exponent.unsigned_abs();
+    if exponent >= 0 {
+        number << places
+    } else if places < 67 {
+        number >> places
+    } else {
+        0
+    }
+}
