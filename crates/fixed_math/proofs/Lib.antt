@@ -1,0 +1,4 @@
+pub mod LogarithmLemmas
+pub mod DecimalLemmas
+pub mod ExponentialLemmas
+pub mod TimeLemmas
