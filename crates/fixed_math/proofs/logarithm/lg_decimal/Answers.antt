@@ -1,5 +1,7 @@
 -- The sum is the logarithm of the decimal, and fits.
-use Rattle.std.proofs.Common.{arith, rules}
+use Rattle.std.proofs.Common.{ℕ, ◌<◌, pos, ap, ◌∙◌, rules, FitsSigned, w64, arith}
+use Rattle.std.proofs.lemmas.Int.{to_z-of_z}
+use Rattle.fixed_math.specs.Logarithm.{log2_of}
 use Rattle.fixed_math.proofs.DecimalLemmas.{lg_of_decimal-zero, lg_of_decimal-sum}
 use Rattle.fixed_math.proofs.logarithm.lg_decimal.Goals as goal
 
@@ -8,8 +10,11 @@ returns-then-digits-eq0-clause-value c = lg_of_decimal-zero c.args.digits c.args
 
 pub returns-else-digits-eq0-clause-value : goal.returns-else-digits-eq0-clause-value
 returns-else-digits-eq0-clause-value c =
-    let a = c.from.ensures in
-    let b = c.log2.ensures in
-    let d = c.from-else-digits-eq0.ensures in
-    let e = c.if-digits-eq0.false in
-    ?
+    let in_range = c.ranges.power in
+    let log_fits : FitsSigned w64 c.log2.result = search rules in
+    let power_fits : FitsSigned w64 c.from-else-digits-eq0.result = search rules in
+    let is_power = simp to_z-of_z at c.from-else-digits-eq0.ensures in
+    let some : 0 < c.args.digits = omega (arith, c.if-digits-eq0.false) in
+    let log = c.log2.ensures.value ∙ ap (λ (n : ℕ). pos (log2_of n)) c.from.ensures in
+    simp to_z-of_z
+    (rw is_power (lg_of_decimal-sum c.args.digits c.args.power c.log2.result some c.requires.power c.log2.ensures.range.0 c.log2.ensures.range.1 log))

@@ -6,16 +6,19 @@ pub returns-then-exponent-ge0-clause-value : goal.returns-then-exponent-ge0-clau
 returns-then-exponent-ge0-clause-value c =
     let in_range = c.ranges.exponent in
     let places = simp to_z-of_z at c.unsigned_abs-places.ensures.value in
-    (scaled_up c.args.number c.unsigned_abs-places.result c.args.exponent c.requires.number places c.if-exponent-ge0.true c.requires.exponent).0
+    let not_below = simp to_z-of_z at c.if-exponent-ge0.true in
+    (scaled_up c.args.number c.unsigned_abs-places.result c.args.exponent c.requires.number places not_below c.requires.exponent).0
 
 pub returns-then-exponent-ge0-clause-small : goal.returns-then-exponent-ge0-clause-small
 returns-then-exponent-ge0-clause-small c =
     let in_range = c.ranges.exponent in
     let places = simp to_z-of_z at c.unsigned_abs-places.ensures.value in
-    (scaled_up c.args.number c.unsigned_abs-places.result c.args.exponent c.requires.number places c.if-exponent-ge0.true c.requires.exponent).1
+    let not_below = simp to_z-of_z at c.if-exponent-ge0.true in
+    (scaled_up c.args.number c.unsigned_abs-places.result c.args.exponent c.requires.number places not_below c.requires.exponent).1
 
 pub returns-else-places-lt67-clause-value : goal.returns-else-places-lt67-clause-value
 returns-else-places-lt67-clause-value c =
     let in_range = c.ranges.exponent in
     let places = simp to_z-of_z at c.unsigned_abs-places.ensures.value in
-    scaled_away c.args.number c.unsigned_abs-places.result c.args.exponent c.requires.number places c.if-exponent-ge0.false c.if-places-lt67.false
+    let below = simp to_z-of_z at c.if-exponent-ge0.false in
+    scaled_away c.args.number c.unsigned_abs-places.result c.args.exponent c.requires.number places below c.if-places-lt67.false
