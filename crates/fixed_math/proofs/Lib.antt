@@ -2,3 +2,4 @@ pub mod LogarithmLemmas
 pub mod DecimalLemmas
 pub mod ExponentialLemmas
 pub mod TimeLemmas
+mod Examples

@@ -76,7 +76,7 @@ module _ (bits rest bit p total : ℕ) (some : 0 < p) (few : p ≤ 30) (is_bit :
   one_placed =
       let last : p ≡ suc (p - 1) = omega arith in
       let left : fraction_bits (p - 1) (rest * rest / 2 ^ (31 + bit)) ≡ fraction_bits (p - 1) (squared rest) =
-          ap (λ (b : ℕ). fraction_bits (p - 1) (rest * rest / 2 ^ (31 + b))) is_bit in
+      ap (λ (b : ℕ). fraction_bits (p - 1) (rest * rest / 2 ^ (31 + b))) is_bit in
       omega (arith, left, placed, one_more bits rest (p - 1), ap (λ (n : ℕ). fraction_bits n rest) last)
 
 -- after the last bit
@@ -98,9 +98,10 @@ module _ (y : ℕ) (positive : 1 ≤ y) (small : y ≤ 2 ^ 64) where
       omega (arith, below_power k (whole_log y) y low whole_log_lt, below_power (whole_log y) k y whole_log_le high)
 
   pub mantissa_range : (2 ^ 31 ≤ mantissa_of y) × (mantissa_of y < 2 ^ 32)
-  mantissa_range =
-      ( le-div (2 ^ 31) (y * 2 ^ 31) (2 ^ whole_log y) (pow_pos (whole_log y)) (omega (arith, whole_log_le)) ,
-        div_below (y * 2 ^ 31) (2 ^ whole_log y) (2 ^ 32) (pow_pos (whole_log y)) (omega (arith, whole_log_lt, pow-succ' 2 (whole_log y))) )
+  mantissa_range = (
+    le-div (2 ^ 31) (y * 2 ^ 31) (2 ^ whole_log y) (pow_pos (whole_log y)) (omega (arith, whole_log_le)),
+    div_below (y * 2 ^ 31) (2 ^ whole_log y) (2 ^ 32) (pow_pos (whole_log y)) (omega (arith, whole_log_lt, pow-succ' 2 (whole_log y))),
+  )
 
   pub log2_of-low : (k : ℕ) → 2 ^ k ≤ y → k * 2 ^ 30 ≤ log2_of y
   unfolding log2_of
@@ -137,8 +138,9 @@ log2_of-power k h =
 pub log2_of-le : (y : ℕ) → 1 ≤ y → y ≤ 2 ^ 64 → log2_of y ≤ 2 ^ 36
 log2_of-le y h k =
     elim (cases_lt y (2 ^ 64)) [
-      inl lt ↦ omega (arith, log2_of-high y h k 63 lt) |
-      inr le ↦ let same : y ≡ 2 ^ 64 = omega arith in omega (arith, ap log2_of same, log2_of-power 64 (le_refl 64)) ]
+      | inl lt ↦ omega (arith, log2_of-high y h k 63 lt)
+      | inr le ↦ let same : y ≡ 2 ^ 64 = omega arith in omega (arith, ap log2_of same, log2_of-power 64 (le_refl 64))
+    ]
 
 pub log2_of-power_is : (y : ℕ) → 1 ≤ y → y ≤ 2 ^ 64 → (k : ℕ) → y ≡ 2 ^ k → log2_of y ≡ k * 2 ^ 30
 log2_of-power_is y least most k e = ap log2_of e ∙ log2_of-power k (below_power k 64 y (omega (arith, e)) (omega arith))

@@ -1,8 +1,8 @@
 -- What the definitions of `specs/Gap.antt` and `specs/WaitingTime.antt` give: a product scaled in 128
 -- bits, the three answers, and that an instance fires after the present.
-use Rattle.std.proofs.Common.{◌≡◌, ℕ, ◌+◌, ◌-◌, ◌*◌, ◌/◌, ◌%◌, ◌^◌, ◌<◌, ◌≤◌, max, ℤ, pos, negsuc, ◌-ℤ◌, ◌≤ℤ◌, unsigned_abs, Option, Some, None, true, false, cond, ◌&&◌, leb, refl, ap, sym, ◌∙◌, mod-eq_of_lt, arith, lit<, FitsSigned, w64, to_z, of_z}
+use Rattle.std.proofs.Common.{◌≡◌, ℕ, ◌+◌, ◌-◌, ◌*◌, ◌/◌, ◌%◌, ◌^◌, ◌<◌, ◌≤◌, max, ℤ, pos, negsuc, ◌-ℤ◌, ◌≤ℤ◌, ◌<ℤ◌, unsigned_abs, Option, Some, None, true, false, cond, ◌&&◌, leb, inl, inr, ◌↔◌, refl, ap, sym, ◌∙◌, mod-eq_of_lt, arith, lit<, FitsSigned, w64, to_z, of_z}
 use Rattle.std.proofs.Math.Nat.{pow-le-pow_right, div-eq_of_lt}
-use Rattle.std.proofs.lemmas.Bool.{cond_both, cond-true, cond-false, and_left, and_right, and_from, and_parts, lt-leb, le-leb, leb-true, leb-false}
+use Rattle.std.proofs.lemmas.Bool.{cond_both, cond-true, cond-false, and_left, and_right, and_from, and_parts, and_cases, lt-leb, le-leb, leb-true, leb-false}
 use Rattle.std.proofs.lemmas.Nat.{shl_below}
 use Rattle.std.proofs.lemmas.Int.{ints, to_z-of_z}
 use Rattle.std.specs.Prelude.{int_le, int_lt}
@@ -11,7 +11,7 @@ use Rattle.kmc_base.specs.declared.moment.When.TheVariants.{At, Never}
 use Rattle.fixed_math.specs.Logarithm.{log2_of}
 use Rattle.fixed_math.specs.Gap.{gap_of}
 use Rattle.fixed_math.specs.Exponential.{exp2_of}
-use Rattle.fixed_math.specs.WaitingTime.{scaled_down, mean_wait, wait_of, end_of_time, time_of, IsLater}
+use Rattle.fixed_math.specs.WaitingTime.{scaled_down, mean_wait, wait_of, end_of_time, time_of, IsNeverDue, IsLater}
 
 -- ---- the gap
 
@@ -36,7 +36,7 @@ scaled_up n p (pos k) h same low high =
     (whole, omega arith)
 scaled_up n p (negsuc k) h same low high = cc
 
-pub scaled_away : (n p : ℕ) (e : ℤ) → n < 2 ^ 67 → p ≡ unsigned_abs e → int_le (pos 0) e ≡ false → 67 ≤ p → 0 ≡ scaled_down n e
+pub scaled_away : (n p : ℕ) (e : ℤ) → n < 2 ^ 67 → p ≡ unsigned_abs e → int_le (pos 0) e ≡ false → 128 ≤ p → 0 ≡ scaled_down n e
 scaled_away n p (pos k) h same low far = absurd (omega (arith, leb-false 0 k low))
 scaled_away n p (negsuc k) h same low far =
     sym (div-eq_of_lt {n = n} (omega (arith, pow-le-pow_right {n = 2} (lit< tt) {i = 67} {j = k + 1} (omega arith))))
@@ -95,6 +95,37 @@ module _ (rate : Option ℤ) (lg : ℤ) (w now : ℕ) (p : ℕ × ℤ) (is_rate 
       let factors : g * m ≡ gap_of w * p.0 = ap (λ (n : ℕ). n * m) is_gap ∙ ap (λ (n : ℕ). gap_of w * n) is_m in
       let product = scaled ∙ ap (λ (n : ℕ). scaled_down n (p.1 -ℤ pos 60)) factors ∙ ap (λ (m : ℕ × ℤ). scaled_down (gap_of w * m.0) (m.1 -ℤ pos 60)) is_mean in
       omega (arith, product)
+
+-- ---- never, exactly by one of its causes
+
+is_late : (q : ℤ) → int_le q (pos 120) ≡ false → pos 120 <ℤ q
+is_late q e = omega (arith, ints)
+
+late_fails : (q : ℤ) → pos 120 <ℤ q → int_le q (pos 120) ≡ false
+late_fails q late = grind (arith, ints)
+
+never_from_test : (lg : ℤ) (w now : ℕ) → (int_le (mean_wait lg).1 (pos 120) && leb (now + wait_of lg w) end_of_time) ≡ false → IsNeverDue (Some lg) w now
+never_from_test lg w now e =
+    elim (and_cases (int_le (mean_wait lg).1 (pos 120)) (leb (now + wait_of lg w) end_of_time) e) [
+      inl late ↦ inl (is_late (mean_wait lg).1 late) |
+      inr past ↦ inr (leb-false (now + wait_of lg w) end_of_time past) ]
+
+test_from_never : (lg : ℤ) (w now : ℕ) → IsNeverDue (Some lg) w now → (int_le (mean_wait lg).1 (pos 120) && leb (now + wait_of lg w) end_of_time) ≡ false
+test_from_never lg w now never =
+    elim never [
+      inl late ↦ and_left (int_le (mean_wait lg).1 (pos 120)) _ (late_fails (mean_wait lg).1 late) |
+      inr past ↦ and_right _ (leb (now + wait_of lg w) end_of_time) (lt-leb (now + wait_of lg w) end_of_time past) ]
+
+pub time_of-never : (rate : Option ℤ) (w now : ℕ) → (time_of rate w now ≡ Never) ↔ IsNeverDue rate w now
+unfolding time_of
+time_of-never None w now = ((λ _. tt), (λ _. refl))
+time_of-never (Some lg) w now =
+    ( cond_both (int_le (mean_wait lg).1 (pos 120) && leb (now + wait_of lg w) end_of_time) (At (now + wait_of lg w)) Never (λ t. t ≡ Never → IsNeverDue (Some lg) w now)
+      (λ _ e. cc) (λ e _. never_from_test lg w now e) ,
+      (λ h. cond-false _ _ _ (test_from_never lg w now h)) )
+
+pub never_at : (rate : Option ℤ) (w now : ℕ) (t : When) → t ≡ time_of rate w now → (t ≡ Never) ↔ IsNeverDue rate w now
+never_at rate w now t e = rw e (time_of-never rate w now)
 
 -- the law: whatever the rate and the draw, an instance fires after the present, and not past the end of time
 pub time_of-later : (rate : Option ℤ) (w now : ℕ) → IsLater now (time_of rate w now)

@@ -4,7 +4,7 @@ use Rattle.std.specs.Prelude.{ℕ, ◌+◌, ◌*◌, ◌/◌, ◌^◌, List, [],
 use Rattle.std.specs.Int.{int_div_euclid, int_rem_euclid}
 
 -- the coefficients of 2^x for x from 0 to 1, the constant one first, in units of 2^-30:
--- the Taylor terms (ln 2)^n / n!, whose sum is 2^31 - 1
+-- the Taylor coefficients (ln 2)^n / n!, rounded, which add up to 2^31 - 1
 abbrev pub exp2_coefficients : List ℕ
 exp2_coefficients =
     1073741824 ∷ 744261118 ∷ 257941248 ∷ 59597083 ∷ 10327387 ∷ 1431680 ∷ 165394 ∷ 16377 ∷ 1419 ∷ 109 ∷ 8 ∷ []

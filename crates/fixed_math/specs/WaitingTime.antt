@@ -1,6 +1,6 @@
 -- The time at which an instance of a process fires (the first reaction method of kinetic Monte Carlo;
 -- Stamatakis and Vlachos 2011): the present time plus a gap over the rate, in as (10^-18 s).
-use Rattle.std.specs.Prelude.{ℕ, zero, suc, ◌+◌, ◌*◌, ◌/◌, ◌^◌, ◌<◌, ◌≤◌, max, ℤ, pos, negsuc, ◌-ℤ◌, int_le, nat_le, ◌&&◌, if◌then◌else◌, Option, Some, None, ⊤}
+use Rattle.std.specs.Prelude.{ℕ, zero, suc, ◌+◌, ◌*◌, ◌/◌, ◌^◌, ◌<◌, ◌≤◌, max, ℤ, pos, negsuc, ◌-ℤ◌, ◌<ℤ◌, ◌⊎◌, int_le, nat_le, ◌&&◌, if◌then◌else◌, Option, Some, None, ⊤}
 use Rattle.kmc_base.specs.declared.moment.When.{When}
 use Rattle.kmc_base.specs.declared.moment.When.TheVariants.{At, Never}
 use Rattle.fixed_math.specs.Exponential.{exp2_of}
@@ -12,7 +12,7 @@ scaled_down n (pos e) = n * 2 ^ e
 scaled_down n (negsuc e) = n / 2 ^ (e + 1)
 
 -- the mean wait 1 / rate in as, as a pair (m, q) that stands for m * 2^(q - 30), of a rate in 1/s whose
--- base-2 logarithm in units of 2^-30 is lg; 64204076376 is the logarithm of 10^18 in these units
+-- base-2 logarithm in units of 2^-30 is lg; 64204076376 is the logarithm of 10^18, eighteen times that of ten
 abbrev pub mean_wait : ℤ → ℕ × ℤ
 mean_wait lg = exp2_of (pos 64204076376 -ℤ lg)
 
@@ -30,6 +30,11 @@ unfoldable pub time_of : Option ℤ → ℕ → ℕ → When
 time_of None w now = Never
 time_of (Some lg) w now =
     if int_le (mean_wait lg).1 (pos 120) && nat_le (now + wait_of lg w) end_of_time then At (now + wait_of lg w) else Never
+
+-- that it never fires, said cause by cause
+abbrev pub IsNeverDue : Option ℤ → ℕ → ℕ → Type 0
+IsNeverDue None w now = ⊤
+IsNeverDue (Some lg) w now = (pos 120 <ℤ (mean_wait lg).1) ⊎ (end_of_time < now + wait_of lg w)
 
 -- a moment that comes, if it ever does, after `now` and not after the end of time
 abbrev pub IsLater : ℕ → When → Type 0

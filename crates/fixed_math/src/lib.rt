@@ -7,6 +7,8 @@
 
 mod exponential;
 mod logarithm;
+#[cfg(test)]
+mod tests;
 mod waiting_time;
 
 pub use exponential::exp2;

@@ -1,4 +1,4 @@
-ghost use Rattle.std.specs.Prelude.{◌≡◌, ℕ, ◌+◌, ◌*◌, ◌%◌, ◌^◌, ◌<◌, ◌≤◌, ◌↔◌, ◌≢◌, ◌⊎◌, pos, ◌≤ℤ◌, ◌<ℤ◌, unsigned_abs, IsSome};
+ghost use Rattle.std.specs.Prelude.{◌≡◌, ℕ, ◌+◌, ◌*◌, ◌%◌, ◌^◌, ◌<◌, ◌≤◌, ◌↔◌, pos, ◌≤ℤ◌, ◌<ℤ◌, unsigned_abs, IsNone, IfSome};
 ghost use Rattle.fixed_math.specs.Logarithm.{fraction_bits, leading_bit, log2_of};
 ghost use Rattle.fixed_math.specs.DecimalLogarithm.{lg_of_decimal};
 
@@ -6,9 +6,9 @@ ghost use Rattle.fixed_math.specs.DecimalLogarithm.{lg_of_decimal};
 const FRACTION_BITS: u32 = 30;
 
 /// The base-2 logarithm of ten, in units of 2^-30.
-const LOG2_OF_TEN: i64 = 3_566_893_132;
+pub(crate) const LOG2_OF_TEN: i64 = 3_566_893_132;
 
-/// The base-2 logarithm of `y` in units of 2^-30, rounded down bit by bit.
+/// The base-2 logarithm of `y` in units of 2^-30, its thirty fraction bits found by squaring.
 pub fn log2(y: u128) -> i64
     requires positive { 1 ≤ y }
     requires in_range { y ≤ 2 ^ 64 }
@@ -47,13 +47,15 @@ fn next_bit(mantissa: u64) -> u64
     if mantissa * mantissa >= 1 << 63 { 1 } else { 0 }
 }
 
-/// The base-2 logarithm of `digits * 10^power` in units of 2^-30, or None where `digits` is 0.
+/// The base-2 logarithm of the decimal `digits * 10^power`, which is written with the fewest digits, in
+/// units of 2^-30; None where it is 0.
 pub fn lg_decimal(digits: u64, power: i32) -> Option<i64>
     requires digits { digits < 10 ^ 18 }
-    requires shortest { (digits ≡ 0) ⊎ (digits % 10 ≢ 0) }
+    requires shortest { digits % 10 ≡ 0 → digits ≡ 0 }
     requires power { unsigned_abs power ≤ 400 }
     ensures value { result ≡ lg_of_decimal digits power }
-    ensures some { IsSome result ↔ (0 < digits) }
+    ensures range { IfSome result (λ lg. unsigned_abs lg ≤ 2 ^ 41) }
+    ensures none { IsNone result ↔ (digits ≡ 0) }
 {
     if digits == 0 {
         None

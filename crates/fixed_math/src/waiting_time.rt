@@ -1,17 +1,17 @@
-ghost use Rattle.std.specs.Prelude.{◌≡◌, ◌^◌, ◌<◌, ◌≤◌, ◌≤ℤ◌, pos, unsigned_abs};
+ghost use Rattle.std.specs.Prelude.{◌≡◌, ◌↔◌, ◌^◌, ◌<◌, ◌≤◌, ◌≤ℤ◌, pos, unsigned_abs};
 ghost use Rattle.std.specs.Option.{ForSome};
 ghost use Rattle.fixed_math.specs.Gap.{gap_of};
-ghost use Rattle.fixed_math.specs.WaitingTime.{IsLater, scaled_down, time_of};
+ghost use Rattle.fixed_math.specs.WaitingTime.{IsLater, IsNeverDue, scaled_down, time_of};
 
 use crate::exponential::exp2;
-use crate::logarithm::log2;
+use crate::logarithm::{LOG2_OF_TEN, log2};
 use kmc_base::When;
 
 /// The natural logarithm of 2, in units of 2^-30.
 const LN_2: u128 = 744_261_118;
 
-/// The base-2 logarithm of 10^18, which is the number of as in a second, in units of 2^-30.
-const LOG2_OF_ATTO: i64 = 64_204_076_376;
+/// The base-2 logarithm of a second in as, 10^18, in units of 2^-30.
+const LOG2_OF_SECOND: i64 = 18 * LOG2_OF_TEN;
 
 /// The greatest exponent of a mean wait that still ends.
 const MAX_EXPONENT: i64 = 120;
@@ -34,13 +34,15 @@ pub fn wait(lg: Option<i64>, w: u64, now: u128) -> When
     requires rate { ForSome lg (λ l. unsigned_abs l ≤ 2 ^ 42) }
     requires time { now ≤ 10 ^ 30 }
     ensures value { result ≡ time_of lg w now }
+    ensures never { (result ≡ When.Never) ↔ IsNeverDue lg w now }
     ensures later { IsLater now result }
 {
     let Some(lg) = lg else { return When::Never };
-    let (mantissa, exponent) = exp2(LOG2_OF_ATTO - lg);
+    let (mantissa, exponent) = exp2(LOG2_OF_SECOND - lg);
     if exponent > MAX_EXPONENT {
         return When::Never;
     }
+    // The gap and the mantissa are both in units of 2^-30.
     let product = u128::from(gap(w)) * u128::from(mantissa);
     let time = now + scaled(product, exponent - 60).max(1);
     if time > END_OF_TIME {
@@ -60,7 +62,7 @@ fn scaled(number: u128, exponent: i64) -> u128
     let places = exponent.unsigned_abs();
     if exponent >= 0 {
         number << places
-    } else if places < 67 {
+    } else if places < 128 {
         number >> places
     } else {
         0

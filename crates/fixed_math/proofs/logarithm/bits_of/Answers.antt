@@ -14,7 +14,8 @@ loop-place-preserved c =
     record {
       low = again.0;
       high = again.1;
-      whole = one_placed c.loop-place.bits c.loop-place.rest c.next_bit-bit.result c.loop-place.place _ (omega arith) (omega arith) c.next_bit-bit.ensures c.loop-place.invariant.whole }
+      whole = one_placed c.loop-place.bits c.loop-place.rest c.next_bit-bit.result c.loop-place.place _ (omega arith) (omega arith) c.next_bit-bit.ensures c.loop-place.invariant.whole;
+    }
 
 pub returns : goal.returns
 returns c = all_placed c.loop-place.bits c.loop-place.rest c.loop-place.place _ (omega arith) c.loop-place.invariant.whole

@@ -7,4 +7,5 @@ abbrev pub invariant-loop-place : goal.invariant-loop-place
 invariant-loop-place l = record {
   low : 2 ^ 31 ≤ l.rest;
   high : l.rest < 2 ^ 32;
-  whole : l.bits + fraction_bits l.place l.rest ≡ fraction_bits 30 l.mantissa }
+  whole : l.bits + fraction_bits l.place l.rest ≡ fraction_bits 30 l.mantissa;
+}

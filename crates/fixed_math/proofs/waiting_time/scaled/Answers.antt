@@ -16,9 +16,9 @@ returns-then-exponent-ge0-clause-small c =
     let not_below = simp to_z-of_z at c.if-exponent-ge0.true in
     (scaled_up c.args.number c.unsigned_abs-places.result c.args.exponent c.requires.number places not_below c.requires.exponent).1
 
-pub returns-else-places-lt67-clause-value : goal.returns-else-places-lt67-clause-value
-returns-else-places-lt67-clause-value c =
+pub returns-else-places-lt128-clause-value : goal.returns-else-places-lt128-clause-value
+returns-else-places-lt128-clause-value c =
     let in_range = c.ranges.exponent in
     let places = simp to_z-of_z at c.unsigned_abs-places.ensures.value in
     let below = simp to_z-of_z at c.if-exponent-ge0.false in
-    scaled_away c.args.number c.unsigned_abs-places.result c.args.exponent c.requires.number places below c.if-places-lt67.false
+    scaled_away c.args.number c.unsigned_abs-places.result c.args.exponent c.requires.number places below c.if-places-lt128.false
