@@ -1,5 +1,5 @@
 -- What the definition of `specs/DecimalLogarithm.antt` gives, and that its sum fits 64 bits.
-use Rattle.std.proofs.Common.{◌≡◌, ℕ, zero, suc, ◌+◌, ◌*◌, ◌^◌, ◌<◌, ◌≤◌, ℤ, pos, ◌+ℤ◌, ◌*ℤ◌, ◌≤ℤ◌, unsigned_abs, Option, Some, None, refl, ap, sym, ◌∙◌, FitsSigned, w64, to_z, of_z, arith, lit<}
+use Rattle.std.proofs.Common.{◌≡◌, ℕ, zero, suc, ◌^◌, ◌<◌, ◌≤◌, ℤ, pos, ◌+ℤ◌, ◌*ℤ◌, ◌≤ℤ◌, unsigned_abs, Option, Some, None, refl, FitsSigned, w64, to_z, of_z, arith, lit<}
 use Rattle.std.proofs.lemmas.Int.{ints, to_z-of_z, fits_signed_mul}
 use Rattle.fixed_math.specs.Logarithm.{log2_of}
 use Rattle.fixed_math.specs.DecimalLogarithm.{lg_of_decimal}

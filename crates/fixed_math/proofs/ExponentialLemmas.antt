@@ -1,5 +1,5 @@
 -- What the definitions of `specs/Exponential.antt` give: one step of the polynomial, and its range.
-use Rattle.std.proofs.Common.{◌≡◌, ℕ, ◌+◌, ◌*◌, ◌/◌, ◌^◌, ◌<◌, ◌≤◌, List, [], ◌∷◌, length, get_or, drop, refl, ap, sym, ◌∙◌, ℤ, pos, arith}
+use Rattle.std.proofs.Common.{◌≡◌, ℕ, ◌+◌, ◌*◌, ◌/◌, ◌^◌, ◌<◌, ◌≤◌, List, [], ◌∷◌, length, get_or, drop, refl, ap, ℤ, arith}
 use Rattle.fixed_math.specs.Exponential.{polynomial_at, exp2_coefficients, fraction_part, whole_part, exp2_of}
 
 pub polynomial_at-empty : (x : ℕ) (cs : List ℕ) → length cs < 1 → 0 ≡ polynomial_at x cs

@@ -1,9 +1,9 @@
 -- What the definitions of `specs/Logarithm.antt` give: the whole part is the greatest power, the bits stay
 -- below the next one, and powers of two have exact logarithms.
-use Rattle.std.proofs.Common.{◌≡◌, ℕ, zero, suc, ◌+◌, ◌-◌, ◌*◌, ◌/◌, ◌%◌, ◌^◌, ◌<◌, ◌≤◌, cond, leb, refl, ap, sym, ◌∙◌, inl, inr, le_refl, mul-div_cancel, mul_comm, mod-eq_of_lt, subst, arith, lit<}
+use Rattle.std.proofs.Common.{◌≡◌, ℕ, zero, suc, ◌+◌, ◌-◌, ◌*◌, ◌/◌, ◌%◌, ◌^◌, ◌<◌, ◌≤◌, cond, leb, refl, ap, ◌∙◌, inl, inr, le_refl, mul-div_cancel, mul_comm, mod-eq_of_lt, arith, lit<}
 use Rattle.std.proofs.Math.Nat.{pow-le-pow_right, pow-succ'}
 use Rattle.std.proofs.lemmas.Bool.{leb-true, leb-false, cases_lt, cond_both}
-use Rattle.std.proofs.lemmas.Nat.{pow_pos, le-div, div_below, mul-lt, mul-le, shl-shr}
+use Rattle.std.proofs.lemmas.Nat.{pow_pos, le-div, div_below, mul-lt, mul-le}
 use Rattle.fixed_math.specs.Logarithm.{greatest_power, whole_log, mantissa_of, leading_bit, squared, fraction_bits, log2_of}
 
 -- ---- the whole part

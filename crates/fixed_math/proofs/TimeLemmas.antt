@@ -1,6 +1,6 @@
 -- What the definitions of `specs/Gap.antt` and `specs/WaitingTime.antt` give: a product scaled in 128
 -- bits, the three answers, and that an instance fires after the present.
-use Rattle.std.proofs.Common.{◌≡◌, ℕ, ◌+◌, ◌-◌, ◌*◌, ◌/◌, ◌%◌, ◌^◌, ◌<◌, ◌≤◌, max, ℤ, pos, negsuc, ◌-ℤ◌, ◌≤ℤ◌, ◌<ℤ◌, unsigned_abs, Option, Some, None, true, false, cond, ◌&&◌, leb, inl, inr, ◌↔◌, refl, ap, sym, ◌∙◌, mod-eq_of_lt, arith, lit<, FitsSigned, w64, to_z, of_z}
+use Rattle.std.proofs.Common.{◌≡◌, ℕ, ◌+◌, ◌-◌, ◌*◌, ◌/◌, ◌%◌, ◌^◌, ◌<◌, ◌≤◌, max, ℤ, pos, negsuc, ◌-ℤ◌, ◌≤ℤ◌, ◌<ℤ◌, unsigned_abs, Option, Some, None, true, false, ◌&&◌, leb, inl, inr, ◌↔◌, refl, ap, sym, ◌∙◌, mod-eq_of_lt, arith, lit<, FitsSigned, w64, to_z, of_z}
 use Rattle.std.proofs.Math.Nat.{pow-le-pow_right, div-eq_of_lt}
 use Rattle.std.proofs.lemmas.Bool.{cond_both, cond-true, cond-false, and_left, and_right, and_from, and_parts, and_cases, lt-leb, le-leb, leb-true, leb-false}
 use Rattle.std.proofs.lemmas.Nat.{shl_below}
@@ -107,22 +107,25 @@ late_fails q late = grind (arith, ints)
 never_from_test : (lg : ℤ) (w now : ℕ) → (int_le (mean_wait lg).1 (pos 120) && leb (now + wait_of lg w) end_of_time) ≡ false → IsNeverDue (Some lg) w now
 never_from_test lg w now e =
     elim (and_cases (int_le (mean_wait lg).1 (pos 120)) (leb (now + wait_of lg w) end_of_time) e) [
-      inl late ↦ inl (is_late (mean_wait lg).1 late) |
-      inr past ↦ inr (leb-false (now + wait_of lg w) end_of_time past) ]
+      | inl late ↦ inl (is_late (mean_wait lg).1 late)
+      | inr past ↦ inr (leb-false (now + wait_of lg w) end_of_time past)
+    ]
 
 test_from_never : (lg : ℤ) (w now : ℕ) → IsNeverDue (Some lg) w now → (int_le (mean_wait lg).1 (pos 120) && leb (now + wait_of lg w) end_of_time) ≡ false
 test_from_never lg w now never =
     elim never [
-      inl late ↦ and_left (int_le (mean_wait lg).1 (pos 120)) _ (late_fails (mean_wait lg).1 late) |
-      inr past ↦ and_right _ (leb (now + wait_of lg w) end_of_time) (lt-leb (now + wait_of lg w) end_of_time past) ]
+      | inl late ↦ and_left (int_le (mean_wait lg).1 (pos 120)) _ (late_fails (mean_wait lg).1 late)
+      | inr past ↦ and_right _ (leb (now + wait_of lg w) end_of_time) (lt-leb (now + wait_of lg w) end_of_time past)
+    ]
 
 pub time_of-never : (rate : Option ℤ) (w now : ℕ) → (time_of rate w now ≡ Never) ↔ IsNeverDue rate w now
 unfolding time_of
 time_of-never None w now = ((λ _. tt), (λ _. refl))
-time_of-never (Some lg) w now =
-    ( cond_both (int_le (mean_wait lg).1 (pos 120) && leb (now + wait_of lg w) end_of_time) (At (now + wait_of lg w)) Never (λ t. t ≡ Never → IsNeverDue (Some lg) w now)
-      (λ _ e. cc) (λ e _. never_from_test lg w now e) ,
-      (λ h. cond-false _ _ _ (test_from_never lg w now h)) )
+time_of-never (Some lg) w now = (
+  cond_both (int_le (mean_wait lg).1 (pos 120) && leb (now + wait_of lg w) end_of_time) (At (now + wait_of lg w)) Never (λ t. t ≡ Never → IsNeverDue (Some lg) w now)
+      (λ _ e. cc) (λ e _. never_from_test lg w now e),
+  (λ h. cond-false _ _ _ (test_from_never lg w now h)),
+)
 
 pub never_at : (rate : Option ℤ) (w now : ℕ) (t : When) → t ≡ time_of rate w now → (t ≡ Never) ↔ IsNeverDue rate w now
 never_at rate w now t e = rw e (time_of-never rate w now)

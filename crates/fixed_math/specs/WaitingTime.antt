@@ -1,6 +1,6 @@
 -- The time at which an instance of a process fires (the first reaction method of kinetic Monte Carlo;
 -- Stamatakis and Vlachos 2011): the present time plus a gap over the rate, in as (10^-18 s).
-use Rattle.std.specs.Prelude.{ℕ, zero, suc, ◌+◌, ◌*◌, ◌/◌, ◌^◌, ◌<◌, ◌≤◌, max, ℤ, pos, negsuc, ◌-ℤ◌, ◌<ℤ◌, ◌⊎◌, int_le, nat_le, ◌&&◌, if◌then◌else◌, Option, Some, None, ⊤}
+use Rattle.std.specs.Prelude.{ℕ, ◌+◌, ◌*◌, ◌/◌, ◌^◌, ◌<◌, ◌≤◌, max, ℤ, pos, negsuc, ◌-ℤ◌, ◌<ℤ◌, ◌⊎◌, int_le, nat_le, ◌&&◌, if◌then◌else◌, Option, Some, None, ⊤}
 use Rattle.kmc_base.specs.declared.moment.When.{When}
 use Rattle.kmc_base.specs.declared.moment.When.TheVariants.{At, Never}
 use Rattle.fixed_math.specs.Exponential.{exp2_of}

@@ -1,5 +1,5 @@
 -- What the code adds up is the logarithm, and the clauses follow from its laws.
-use Rattle.std.proofs.Common.{◌≡◌, ℕ, ◌+◌, ◌*◌, ◌%◌, ◌^◌, suc, arith, add-one, subst, ◌<◌}
+use Rattle.std.proofs.Common.{◌≡◌, ◌+◌, ◌*◌, ◌%◌, ◌^◌, arith, add-one}
 use Rattle.std.proofs.lemmas.Int.{ints}
 use Rattle.fixed_math.specs.Logarithm.{log2_of}
 use Rattle.fixed_math.proofs.LogarithmLemmas.{log2_of-sum, log2_of-le, log2_of-low, log2_of-high, log2_of-power_is}

@@ -1,7 +1,6 @@
 -- Each answer by the lemma on that answer.
-use Rattle.std.proofs.Common.{◌≡◌, ◌∙◌, ap, ℕ, ◌+◌, ◌<◌, ◌≤◌, ◌^◌, unsigned_abs, arith}
+use Rattle.std.proofs.Common.{◌∙◌, ap, ℕ, ◌+◌, arith}
 use Rattle.kmc_base.specs.declared.moment.When.TheVariants.{At}
-use Rattle.fixed_math.specs.WaitingTime.{mean_wait, wait_of}
 use Rattle.fixed_math.proofs.TimeLemmas.{seconds_fit, seconds_in_range, is_mean_wait, time_of-none, time_of-late, time_of-past, time_of-due, wait_of-product, never_at}
 use Rattle.fixed_math.proofs.waiting_time.wait.Goals as goal
 
