@@ -15,7 +15,7 @@ fn simple_values(rt: HostRuntime) {
     for (draw, width) in [(0, 47_632_711_552), (u64::MAX, 0)] {
         assert_eq!(rt; gap(draw), width, "at {draw}");
     }
-    // A mean wait of 2^120 as and more, yet no gap; the end of time; a mean wait of 2^121 as; no rate.
+    // A mean wait just below 2^121 as, but no gap; the end of time; a mean wait of 2^121 as; no rate.
     let end = 1_000_000_000_000_000_000_000_000_000_000;
     for (lg, now, when) in [
         (Some(-65_718_684_000), 5, When::At(6)),
