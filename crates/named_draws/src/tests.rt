@@ -1,0 +1,73 @@
+use crate::Draws;
+use rand_chacha::ChaCha8Rng;
+use rand_core::{Rng, SeedableRng};
+
+// The key of random seed 258: its eight bytes, low byte first, four times.
+const KEY_OF_258: [u8; 32] = [
+    2, 1, 0, 0, 0, 0, 0, 0, 2, 1, 0, 0, 0, 0, 0, 0, 2, 1, 0, 0, 0, 0, 0, 0, 2, 1, 0, 0, 0, 0, 0, 0,
+];
+
+#[test]
+fn walks_along_streams(rt: HostRuntime) {
+    let mut draws = Draws::new(258);
+    for (event, from, count) in [
+        (0, 0, 40),
+        (1, 0, 9),
+        (7, 72_057_596_185_411_584, 20),
+        (u64::MAX, 18_446_744_073_709_551_610, 12),
+        (0, 36_893_488_147_419_103_222, 10),
+    ] {
+        let mut words = ChaCha8Rng::from_seed(KEY_OF_258);
+        words.set_stream(event);
+        words.set_word_pos(2 * from);
+        for step in 0..count {
+            let low = u64::from(words.next_u32());
+            let high = u64::from(words.next_u32());
+            assert_eq!(rt;
+                draws.draw(event, from + step),
+                high << 32 | low,
+                "{event} {from} {step}"
+            );
+        }
+    }
+}
+
+// The expected numbers are those of a plain implementation of the cipher in another language, which
+// gives the vectors of RFC 8439 at 20 rounds; the one of seed 0 is a published vector of ChaCha8.
+#[test]
+fn names_in_any_order(rt: HostRuntime) {
+    let mut draws = Draws::new(258);
+    for (event, code, expected) in [
+        (0, 0, 0xf3d9d52603a2e3ba),
+        (5, 18_446_744_073_709_551_619, 0x5873e408da927fa6),
+        (0, 7, 0x22e1d3aa7bcd5d2b),
+        (0, 8, 0x797817963509479f),
+        (
+            1_099_511_627_775,
+            72_057_596_185_411_584,
+            0xad94b9302f29e7ab,
+        ),
+        (0, 0, 0xf3d9d52603a2e3ba),
+        (u64::MAX, 36_893_488_147_419_103_231, 0x8b6cd3ce9091a845),
+        (5, 18_446_744_073_709_551_620, 0xdfa7b7ffd71a45da),
+        (1, 0, 0xcf89cb761fd317b1),
+    ] {
+        assert_eq!(rt;
+            draws.draw(event, code),
+            expected,
+            "event {event}, code {code}"
+        );
+    }
+    for (seed, event, code, expected) in [
+        (0, 0, 0, 0xd6405f892fef003e),
+        (u64::MAX, 3, 18_446_744_073_709_551_616, 0x0d28dcd8615d3b01),
+        (
+            0x0123456789abcdef,
+            1_000_000_000_000,
+            72_058_178_153_480_192,
+            0xdc5c97d10a913cd5,
+        ),
+    ] {
+        assert_eq!(rt; Draws::new(seed).draw(event, code), expected, "seed {seed}");
+    }
+}
