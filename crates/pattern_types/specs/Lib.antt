@@ -1,0 +1,10 @@
+pub mod Edges
+pub mod Kept
+pub mod Order
+pub mod Parts
+pub mod PlacementFields
+pub mod Sites
+pub mod Soundness
+pub mod Table
+pub mod Walk
+pub mod Wants

@@ -1,0 +1,25 @@
+//! The patterns of sites that energetic clusters and elementary steps are made of: vertices that ask
+//! for a type of site and want a state of it, and edges between them; and placements, the sites on
+//! which the vertices of a pattern may fall.
+//!
+//! A pattern is sound by its type: it has one to eight vertices, is connected, and no entity of it
+//! names a dentate twice or two species. Its vertices have one order, in which each but the first has
+//! a parent, an earlier vertex that it is joined to.
+//!
+//! It stands on `kmc_base`, for the names of sites and species.
+#![tactic(auto)]
+
+mod edges;
+mod fault;
+mod order;
+mod pattern;
+mod placement;
+mod wanted;
+
+pub use fault::PatternFault;
+pub use pattern::Pattern;
+pub use placement::Placement;
+pub use wanted::Wanted;
+
+#[cfg(test)]
+mod tests;
