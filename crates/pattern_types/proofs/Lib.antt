@@ -1,6 +1,8 @@
 pub mod EdgeLemmas
 pub mod FaultLemmas
+pub mod KeptLemmas
 pub mod OrderLemmas
+pub mod ParentLemmas
 pub mod RangeLemmas
 pub mod SitesLemmas
 pub mod WalkLemmas
