@@ -1,0 +1,12 @@
+//! Text for every layer that reads or writes files: a text's lines and words, decimals, whole
+//! numbers, and numbers printed with a fixed number of decimals.
+//!
+//! `split` gives exactly the words of a text, each by its place, on numbered lines. `read_decimal`
+//! and `read_whole` take exactly the words of their grammar, with the value that each stands for.
+//! `Decimal::scaled` rounds half away from zero. `print_fixed` appends exactly the printed number,
+//! and what it printed is read back. The crate stands on `kmc_base` alone.
+#![tactic(auto)]
+
+mod lines;
+
+pub use lines::{Line, Span, split};
