@@ -4,6 +4,7 @@ use Rattle.std.specs.List.{position_or_len, before_first, slice_range}
 use Rattle.std.proofs.lemmas.Bool.{cases_lt, cases_Bool}
 use Rattle.std.proofs.lemmas.List.{take-take, drop-take, drop-drop, drop_all}
 use Rattle.std.proofs.lemmas.List.Sums.{prefix_len-le-length}
+use Rattle.dec_text.proofs.Filled.{is_filled_full}
 use Rattle.dec_text.proofs.Places.{length-slice_range}
 use Rattle.dec_text.specs.Lines.{Run, run, runs, with_byte, is_filled, filled}
 
@@ -73,10 +74,6 @@ next_run p xs at end stop ordered inside is_stop =
         slice_rest xs at end (position_or_len p (slice_range xs at end) + 1) (omega arith) inside ∙ ap (λ k. slice_range xs k end) place in
     first_run p at (slice_range xs at end) has ∙ rw (before_in_part p xs at end stop (omega arith) inside is_stop, rest, begins) refl
 
-is_filled_part : (xs : List ℕ) → 0 < length xs → is_filled xs ≡ true
-is_filled_part [] has = absurd (omega arith)
-is_filled_part (x ∷ xs) has = refl
-
 -- a run that has bytes is a word
 pub next_word : (p : ℕ → Bool) (xs : List ℕ) (at end stop : ℕ) → at < end → end ≤ length xs
     → stop ≡ at + position_or_len p (slice_range xs at end) → at < stop
@@ -84,7 +81,7 @@ pub next_word : (p : ℕ → Bool) (xs : List ℕ) (at end stop : ℕ) → at < 
 next_word p xs at end stop ordered inside is_stop has =
     let bound : stop ≤ end = omega (arith, place_in_part p xs at end (omega arith) inside) in
     let word : is_filled (slice_range xs at stop) ≡ true =
-        is_filled_part _ (omega (arith, length-slice_range xs at stop (omega arith) (omega arith))) in
+        is_filled_full _ (omega (arith, length-slice_range xs at stop (omega arith) (omega arith))) in
     rw (next_run p xs at end stop ordered inside is_stop, word) refl
 
 -- a run without bytes is none

@@ -1,3 +1,7 @@
 pub mod Bytes
+pub mod Decimals
+pub mod Digits
 pub mod Lines
 pub mod Spans
+pub mod Wholes
+pub mod Significands

@@ -7,6 +7,13 @@
 //! and what it printed is read back. The crate stands on `kmc_base` alone.
 #![tactic(auto)]
 
+mod decimal;
+mod digits;
+mod faults;
 mod lines;
+mod significand;
 
+pub use decimal::Decimal;
+pub use digits::read_whole;
+pub use faults::{DecimalFault, NotWhole, OutOfRange};
 pub use lines::{Line, Span, split};
