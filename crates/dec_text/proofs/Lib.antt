@@ -4,4 +4,5 @@ pub mod Fronts
 pub mod Places
 pub mod Powers
 pub mod Runs
+pub mod Scientifics
 pub mod Words

@@ -9,6 +9,9 @@ use Rattle.dec_text.specs.Digits.{is_digit, is_zero, number}
 pub power_below : (k : ℕ) → k < 18 → 10 ^ k ≤ 10 ^ 17
 power_below k small = search (arith, pow-le-pow_right)
 
+pub power_at_most : (k : ℕ) → k ≤ 18 → 10 ^ k ≤ 10 ^ 18
+power_at_most k small = search (arith, pow-le-pow_right)
+
 pub power_more : (k : ℕ) → 10 ^ (k + 1) ≡ 10 * 10 ^ k
 power_more k = rw (add-one, pow-suc) (omega arith)
 

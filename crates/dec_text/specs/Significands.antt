@@ -1,4 +1,4 @@
-use Rattle.std.specs.Prelude.{◌≡◌, ◌-◌, ◌^◌, ◌<◌, ℕ, if◌then◌else◌, List, [], ◌∷◌, ◌++◌, length, min, take}
+use Rattle.std.specs.Prelude.{◌≡◌, ◌-◌, ◌^◌, ◌<◌, ℕ, Bool, if◌then◌else◌, List, [], ◌∷◌, ◌++◌, length, min, take}
 use Rattle.dec_text.specs.Digits.{number, without_leading_zeros}
 use Rattle.dec_text.specs.Lines.{is_filled}
 use Rattle.dec_text.specs.declared.significand.Significand.{Significand}
@@ -14,3 +14,7 @@ pub record Keeps (kept : Significand) (digits : List ℕ) : Type 0 where
   pub count : kept.count ≡ min 18 (length digits)
   pub dropped : kept.dropped ≡ length digits - 18
   pub fits : kept.digits < 10 ^ kept.count
+
+-- The sign and the size of an exponent, where sizes above a cap are not told apart.
+abbrev pub capped : ℕ → Bool × ℕ → Bool × ℕ
+capped cap exponent = (exponent.0, min cap exponent.1)

@@ -13,7 +13,7 @@ mod faults;
 mod lines;
 mod significand;
 
-pub use decimal::Decimal;
+pub use decimal::{Decimal, read_decimal};
 pub use digits::read_whole;
 pub use faults::{DecimalFault, NotWhole, OutOfRange};
 pub use lines::{Line, Span, split};
