@@ -3,6 +3,7 @@ pub mod Filled
 pub mod Fronts
 pub mod Places
 pub mod Powers
+pub mod Readings
 pub mod Runs
 pub mod Scientifics
 pub mod Words
