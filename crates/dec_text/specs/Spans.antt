@@ -14,11 +14,11 @@ run_at text span = record { start = span.start; bytes = bytes_at text span }
 
 -- the line that a line of spans stands for
 abbrev pub line_at : List ℕ → Line → WordLine
-line_at text line = record { number = line.number; words = map (run_at text) line.words.items }
+line_at text line = record { number = line.number; words = map (run_at text) line.words }
 
 -- the number of a line of spans, with the bytes of its words
 abbrev pub plain_line_at : List ℕ → Line → ℕ × List (List ℕ)
-plain_line_at text line = (line.number, map (bytes_at text) line.words.items)
+plain_line_at text line = (line.number, map (bytes_at text) line.words)
 
 -- a span has a byte, and lies within the text
 pub record IsWithin (text : List ℕ) (span : Span) : Type 0 where
@@ -27,4 +27,4 @@ pub record IsWithin (text : List ℕ) (span : Span) : Type 0 where
 
 -- so do the words of a line
 abbrev pub AreWithin : List ℕ → Line → Type 0
-AreWithin text line = All (IsWithin text) line.words.items
+AreWithin text line = All (IsWithin text) line.words

@@ -4,7 +4,7 @@ ghost use Rattle.dec_text.specs.Bytes.{is_blank, is_comment_mark, is_line_feed};
 ghost use Rattle.dec_text.specs.Lines.{filled, is_filled, lines_of, run, runs, word_lines, words_of};
 ghost use Rattle.dec_text.specs.Spans.{AreWithin, IsWithin, line_at, plain_line_at, run_at};
 
-use kmc_base::OutOfMemory;
+use kmc_base::{Items, OutOfMemory};
 use std::alloc::Global;
 
 /// The place of a word in a text: it begins at the byte `start` and ends before the byte `end`.
@@ -20,7 +20,7 @@ pub struct Line {
     /// The number of the line in its text, from 1; lines without a word count too.
     pub number: u32,
     /// Its words, from left to right.
-    pub words: Vec<Span>,
+    pub words: Items<Span>,
 }
 
 /// Gives the lines of a text that have a word, in order, with the place of each word.
@@ -48,10 +48,13 @@ pub fn split(alloc: Global, bytes: &[u8]) -> Result<Vec<Line>, OutOfMemory>
 
 /// Appends a line, but not one without words.
 fn push_line(lines: &mut Vec<Line>, number: u32, words: Vec<Span>) -> Result<(), OutOfMemory>
-    ensures { OnOk result (lines.new.items ≡ lines.old.items ++ (if is_filled words.items then record { number = number; words = words } ∷ [] else [])) }
+    ensures { OnOk result (lines.new.items ≡ lines.old.items ++ (if is_filled words.items then record { number = number; words = words.items } ∷ [] else [])) }
 {
     if !words.is_empty() {
-        lines.push(Line { number, words })?;
+        lines.push(Line {
+            number,
+            words: Items::new(words),
+        })?;
     }
     Ok(())
 }
