@@ -1,9 +1,11 @@
+pub mod Bounds
 pub mod DigitLists
 pub mod Filled
 pub mod Fronts
 pub mod Places
 pub mod Powers
 pub mod Readings
+pub mod Rounding
 pub mod Runs
 pub mod Scientifics
 pub mod Words

@@ -5,3 +5,4 @@ pub mod Lines
 pub mod Spans
 pub mod Wholes
 pub mod Significands
+pub mod Scaled

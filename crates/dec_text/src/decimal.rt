@@ -93,11 +93,11 @@ fn with_power(negative: bool, digits: u64, power: i128) -> Result<Decimal, Decim
 }
 
 /// A size with its sign.
-fn signed(negative: bool, size: u128) -> i128
-    requires { size ≤ CAP }
+pub fn signed(negative: bool, size: u128) -> i128
+    requires { size < 2 ^ 126 }
     ensures value { result ≡ signed negative size }
-    ensures low { neg_ℤ (pos CAP) ≤ℤ result }
-    ensures high { result ≤ℤ pos CAP }
+    ensures low { neg_ℤ (pos size) ≤ℤ result }
+    ensures high { result ≤ℤ pos size }
 {
     if negative { -(size as i128) } else { size as i128 }
 }

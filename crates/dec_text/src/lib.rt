@@ -11,6 +11,7 @@ mod decimal;
 mod digits;
 mod faults;
 mod lines;
+mod scaled;
 mod significand;
 
 pub use decimal::{Decimal, read_decimal};
