@@ -4,6 +4,7 @@ pub mod Filled
 pub mod Fronts
 pub mod Places
 pub mod Powers
+pub mod Printing
 pub mod Readings
 pub mod Rounding
 pub mod Runs

@@ -11,7 +11,7 @@ raised_more digits k = rw (power_more k) (omega arith)
 pub lowered_more : (digits k : ℕ) → digits / 10 ^ k / 10 ≡ digits / 10 ^ (k + 1)
 lowered_more digits k = rw (power_more k, div-div-eq-div-mul digits (10 ^ k) 10, mul_comm (10 ^ k) 10) refl
 
-power_positive : (k : ℕ) → 0 < 10 ^ k
+pub power_positive : (k : ℕ) → 0 < 10 ^ k
 power_positive k = search (arith, one-le-pow)
 
 -- the nearest whole number to m / (10 t), where q and r divide m by t, and s and u divide q + 5 by 10

@@ -6,3 +6,4 @@ pub mod Spans
 pub mod Wholes
 pub mod Significands
 pub mod Scaled
+pub mod Fixed

@@ -10,6 +10,7 @@
 mod decimal;
 mod digits;
 mod faults;
+mod fixed;
 mod lines;
 mod scaled;
 mod significand;
@@ -17,4 +18,5 @@ mod significand;
 pub use decimal::{Decimal, read_decimal};
 pub use digits::read_whole;
 pub use faults::{DecimalFault, NotWhole, OutOfRange};
+pub use fixed::print_fixed;
 pub use lines::{Line, Span, split};
