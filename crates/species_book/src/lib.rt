@@ -1,13 +1,10 @@
-// A library with one function.
+//! The species of a deck by their names: which place a name has in the list of gas species or of
+//! surface species, and how many dentates a surface species has.
+//!
+//! A look-up answers the one place where the name stands, and None exactly where it stands nowhere.
+//! The crate stands on `kmc_base` alone and takes no memory.
 #![tactic(auto)]
 
-ghost use Rattle.std.specs.Prelude.{◌≡◌};
-ghost use Rattle.species_book.specs.Echo.{echo_of};
+mod book;
 
-// The `ensures` clause is the contract: what `echo` returns is `echo_of` of its argument, a definition
-// in `specs/Echo.antt`, which a caller's clause can cite too.
-pub fn echo(x: usize) -> usize
-    ensures { result ≡ echo_of x }
-{
-    x
-}
+pub use book::SpeciesBook;
