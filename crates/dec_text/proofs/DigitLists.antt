@@ -1,16 +1,12 @@
 -- digits, one more at their end
-use Rattle.std.proofs.Common.{◌≡◌, ◌⊎◌, ℕ, ◌+◌, ◌-◌, ◌*◌, ◌^◌, ◌<◌, ◌≤◌, ◌%◌, ◌/◌, Bool, true, false, cond, not, List, [], ◌∷◌, ◌++◌, length, get_or, take, drop, min, refl, ap, sym, ◌∙◌, arith, inl, inr, ⊎_elim, if◌then◌else◌, add_assoc}
-use Rattle.std.proofs.Math.Nat.{pow-suc, pow-le-pow_right}
+use Rattle.std.proofs.Common.{◌≡◌, ℕ, ◌+◌, ◌-◌, ◌*◌, ◌<◌, true, false, List, [], ◌∷◌, ◌++◌, length, get_or, take, refl, ⊎_elim}
 use Rattle.std.proofs.lemmas.Bool.{cases_Bool}
-use Rattle.std.proofs.lemmas.Grind.{common_steps}
 use Rattle.std.proofs.lemmas.List.{append-nil, take_more}
 use Rattle.std.proofs.lemmas.List.Sums.{fold_push}
 use Rattle.std.proofs.lemmas.List.Elements.{filter-append}
 use Rattle.std.specs.List.{filter}
-use Rattle.dec_text.proofs.Filled.{is_filled_full, is_filled_empty}
 use Rattle.dec_text.specs.Decimals.{significant}
-use Rattle.dec_text.specs.Digits.{is_digit, is_zero, number, then_digit, without_leading_zeros, without_trailing_zeros}
-use Rattle.dec_text.specs.Lines.{is_filled}
+use Rattle.dec_text.specs.Digits.{is_digit, is_zero, number, then_digit, without_leading_zeros}
 use Rattle.dec_text.specs.Significands.{with_digit}
 
 pub number_push : (ds : List ℕ) (d : ℕ) → number (ds ++ d ∷ []) ≡ 10 * number ds + (d - 48)

@@ -1,5 +1,5 @@
 -- a list with members, by its length
-use Rattle.std.proofs.Common.{◌≡◌, ◌<◌, true, false, List, [], ◌∷◌, ◌++◌, length, refl, arith}
+use Rattle.std.proofs.Common.{◌≡◌, ◌<◌, true, false, List, [], ◌∷◌, length, refl, arith}
 use Rattle.dec_text.specs.Lines.{is_filled}
 
 pub is_filled_full : {X : Type 0} (xs : List X) → 0 < length xs → is_filled xs ≡ true

@@ -1,8 +1,8 @@
 -- a number whose last zeros are taken off one by one, and its digits
-use Rattle.std.proofs.Common.{◌≡◌, ℕ, ◌+◌, ◌-◌, ◌*◌, ◌/◌, ◌%◌, ◌<◌, ◌≤◌, Bool, true, false, List, [], ◌∷◌, ◌++◌, All, length, get_or, take, not, refl, ap, sym, ◌∙◌, subst, arith, ⊎_elim, ◌&&◌, if◌then◌else◌}
+use Rattle.std.proofs.Common.{◌≡◌, ℕ, ◌+◌, ◌-◌, ◌*◌, ◌/◌, ◌%◌, ◌<◌, ◌≤◌, true, false, List, [], ◌∷◌, ◌++◌, All, length, get_or, take, refl, ap, sym, ◌∙◌, arith, ⊎_elim}
 use Rattle.std.proofs.lemmas.Bool.{cases_Bool, cases_lt}
 use Rattle.std.proofs.lemmas.Bool.Decides.{nat_tests}
-use Rattle.std.proofs.lemmas.List.{take_all, take_more, length_push, length-take-le, get_or-take}
+use Rattle.std.proofs.lemmas.List.{take_all, take_more, length-take-le, get_or-take}
 use Rattle.dec_text.proofs.DigitLists.{number_push}
 use Rattle.dec_text.specs.Digits.{is_digit, is_zero, number, without_trailing_zeros}
 use Rattle.dec_text.specs.Lines.{is_filled}
@@ -20,9 +20,9 @@ trailing_digit [] d other = rw other refl
 trailing_digit (x ∷ xs) d other =
     let more : is_filled (xs ++ d ∷ []) ≡ true = is_filled-append xs d in
     rw (trailing_digit xs d other, more) (⊎_elim
-      (λ (zero_front : is_zero x ≡ true). rw zero_front refl)
-      (λ (front : is_zero x ≡ false). rw front refl)
-      (cases_Bool (is_zero x)))
+    (λ (zero_front : is_zero x ≡ true). rw zero_front refl)
+    (λ (front : is_zero x ≡ false). rw front refl)
+    (cases_Bool (is_zero x)))
 
 -- all are digits
 abbrev pub Digits : List ℕ → Type 0
@@ -73,8 +73,8 @@ front_shorter ds rest k f positive divides =
     record {
       front = take n f.front;
       digits = λ j e inside.
-        let before : j < n = omega (arith, length-take-le n f.front (omega arith)) in
-        rw (get_or-take n f.front j e before) (f.digits j e (omega arith));
+          let before : j < n = omega (arith, length-take-le n f.front (omega arith)) in
+          rw (get_or-take n f.front j e before) (f.digits j e (omega arith));
       value = omega (arith, f.value);
       same = sym (trailing_zero (take n f.front) last zero_last) ∙ ap without_trailing_zeros (sym (last_split f.front n long)) ∙ f.same;
       size = omega (arith, length-take-le n f.front (omega arith), f.size);
@@ -92,5 +92,5 @@ front_done ds rest k f other =
     let value : number f.front ≡ 10 * number (take n f.front) + (last - 48) = last_of f.front n long in
     let digit_last : is_zero last ≡ false = is_zero_not last (λ e. absurd (omega (arith, f.value))) in
     let kept : without_trailing_zeros ds ≡ f.front =
-        sym f.same ∙ ap without_trailing_zeros (last_split f.front n long) ∙ trailing_digit (take n f.front) last digit_last ∙ sym (last_split f.front n long) in
+    sym f.same ∙ ap without_trailing_zeros (last_split f.front n long) ∙ trailing_digit (take n f.front) last digit_last ∙ sym (last_split f.front n long) in
     (rw kept f.value, rw kept f.size)

@@ -1,10 +1,8 @@
 -- powers of ten and digits, as numbers
-use Rattle.std.proofs.Common.{◌≡◌, ◌⊎◌, ℕ, ◌+◌, ◌-◌, ◌*◌, ◌^◌, ◌<◌, ◌≤◌, Bool, true, false, List, [], ◌∷◌, ◌++◌, length, take, min, refl, ap, sym, ◌∙◌, arith, ⊎_elim, add-one, IsTrue}
+use Rattle.std.proofs.Common.{◌≡◌, ℕ, ◌+◌, ◌*◌, ◌^◌, ◌<◌, ◌≤◌, arith, add-one, IsTrue}
 use Rattle.std.proofs.Math.Nat.{pow-suc, pow-le-pow_right}
-use Rattle.std.proofs.lemmas.Bool.{cases_Bool}
 use Rattle.std.proofs.lemmas.Bool.Decides.{nat_tests}
-use Rattle.dec_text.proofs.Filled.{is_filled_full, is_filled_empty}
-use Rattle.dec_text.specs.Digits.{is_digit, is_zero, number}
+use Rattle.dec_text.specs.Digits.{is_digit}
 
 pub power_below : (k : ℕ) → k < 18 → 10 ^ k ≤ 10 ^ 17
 power_below k small = search (arith, pow-le-pow_right)

@@ -1,9 +1,8 @@
 -- powers of ten, one step of a product and of a quotient, and the half that goes up
-use Rattle.std.proofs.Common.{◌≡◌, ℕ, ◌+◌, ◌-◌, ◌*◌, ◌/◌, ◌%◌, ◌^◌, ◌<◌, ◌≤◌, min, refl, ap, sym, ◌∙◌, arith}
+use Rattle.std.proofs.Common.{◌≡◌, ℕ, ◌+◌, ◌*◌, ◌/◌, ◌%◌, ◌^◌, ◌<◌, ◌≤◌, refl, ap, sym, arith}
 use Rattle.std.proofs.Math.Nat.{div-div-eq-div-mul, mul-le-mul_left, mul_comm, one-le-pow}
 use Rattle.std.proofs.lemmas.Nat.{div-add-mod', div-mul-add, mod_below}
 use Rattle.dec_text.proofs.Powers.{power_more}
-use Rattle.dec_text.specs.declared.scaled.TheConstants.{PAST}
 
 pub raised_more : (digits k : ℕ) → digits * 10 ^ (k + 1) ≡ 10 * (digits * 10 ^ k)
 raised_more digits k = rw (power_more k) (omega arith)
@@ -28,4 +27,4 @@ lowered_half m k =
     let t : ℕ = 10 ^ k in
     let q : ℕ = m / t in
     rw (power_more k) (sym (nearest m t q (m % t) ((q + 5) / 10) ((q + 5) % 10)
-      (sym (div-add-mod' m t)) (mod_below m t (power_positive k)) (omega arith) (omega arith)))
+    (sym (div-add-mod' m t)) (mod_below m t (power_positive k)) (omega arith) (omega arith)))

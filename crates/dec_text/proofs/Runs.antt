@@ -1,12 +1,12 @@
 -- the first run of a part of a text
-use Rattle.std.proofs.Common.{◌≡◌, ℕ, ◌+◌, ◌-◌, ◌<◌, ◌≤◌, Bool, true, false, List, [], ◌∷◌, length, take, drop, suc, not, refl, ap, sym, ◌∙◌, arith, add-zero, inl, inr, ⊎_elim, length-take, length-drop}
+use Rattle.std.proofs.Common.{◌≡◌, ℕ, ◌+◌, ◌-◌, ◌<◌, ◌≤◌, Bool, true, false, List, [], ◌∷◌, length, take, drop, suc, not, refl, ap, sym, ◌∙◌, arith, add-zero, ⊎_elim}
 use Rattle.std.specs.List.{position_or_len, before_first, slice_range}
 use Rattle.std.proofs.lemmas.Bool.{cases_lt, cases_Bool}
 use Rattle.std.proofs.lemmas.List.{take-take, drop-take, drop-drop, drop_all}
 use Rattle.std.proofs.lemmas.List.Sums.{prefix_len-le-length}
 use Rattle.dec_text.proofs.Filled.{is_filled_full}
 use Rattle.dec_text.proofs.Places.{length-slice_range}
-use Rattle.dec_text.specs.Lines.{Run, run, runs, with_byte, is_filled, filled}
+use Rattle.dec_text.specs.Lines.{run, runs, is_filled, filled}
 
 -- a text that has bytes is its first run, and after the byte that ends it the runs of the rest
 abbrev FirstRun : (ℕ → Bool) → ℕ → List ℕ → Type 0
@@ -42,12 +42,12 @@ slice_first xs at end k inside = let e : at + k - at ≡ k = omega arith in rw (
 slice_rest : (xs : List ℕ) (at end k : ℕ) → at ≤ end → end ≤ length xs → drop k (slice_range xs at end) ≡ slice_range xs (at + k) end
 slice_rest xs at end k ordered inside = ⊎_elim
     (λ (past : end < at + k).
-        let all : length (slice_range xs at end) ≤ k = omega (arith, length-slice_range xs at end ordered inside) in
-        let none : end - (at + k) ≡ 0 = omega arith in
-        rw (drop_all k (slice_range xs at end) all, none) refl)
+    let all : length (slice_range xs at end) ≤ k = omega (arith, length-slice_range xs at end ordered inside) in
+    let none : end - (at + k) ≡ 0 = omega arith in
+    rw (drop_all k (slice_range xs at end) all, none) refl)
     (λ (before : at + k ≤ end).
-        let split : end - at ≡ k + (end - (at + k)) = omega arith in
-        rw (split, drop-take k (end - (at + k)) (drop at xs), drop-drop k at xs) refl)
+    let split : end - at ≡ k + (end - (at + k)) = omega arith in
+    rw (split, drop-take k (end - (at + k)) (drop at xs), drop-drop k at xs) refl)
     (cases_lt end (at + k))
 
 -- the first place in a part that passes a test is in the part, or its end
@@ -71,7 +71,7 @@ next_run p xs at end stop ordered inside is_stop =
     let place : at + (position_or_len p (slice_range xs at end) + 1) ≡ stop + 1 = omega arith in
     let begins : at + position_or_len p (slice_range xs at end) + 1 ≡ stop + 1 = omega arith in
     let rest : drop (position_or_len p (slice_range xs at end) + 1) (slice_range xs at end) ≡ slice_range xs (stop + 1) end =
-        slice_rest xs at end (position_or_len p (slice_range xs at end) + 1) (omega arith) inside ∙ ap (λ k. slice_range xs k end) place in
+    slice_rest xs at end (position_or_len p (slice_range xs at end) + 1) (omega arith) inside ∙ ap (λ k. slice_range xs k end) place in
     first_run p at (slice_range xs at end) has ∙ rw (before_in_part p xs at end stop (omega arith) inside is_stop, rest, begins) refl
 
 -- a run that has bytes is a word
@@ -81,7 +81,7 @@ pub next_word : (p : ℕ → Bool) (xs : List ℕ) (at end stop : ℕ) → at < 
 next_word p xs at end stop ordered inside is_stop has =
     let bound : stop ≤ end = omega (arith, place_in_part p xs at end (omega arith) inside) in
     let word : is_filled (slice_range xs at stop) ≡ true =
-        is_filled_full _ (omega (arith, length-slice_range xs at stop (omega arith) (omega arith))) in
+    is_filled_full _ (omega (arith, length-slice_range xs at stop (omega arith) (omega arith))) in
     rw (next_run p xs at end stop ordered inside is_stop, word) refl
 
 -- a run without bytes is none

@@ -1,5 +1,5 @@
 -- the number that a mantissa and an exponent stand for
-use Rattle.std.proofs.Common.{◌≡◌, ℕ, ◌+◌, ◌-◌, ◌*◌, ◌^◌, ◌<◌, ◌≤◌, ℤ, pos, negsuc, neg_ℤ, ◌+ℤ◌, ◌-ℤ◌, ◌≤ℤ◌, ◌<ℤ◌, Bool, true, false, cond, List, [], ◌∷◌, ◌++◌, All, ◌⊎◌, length, get_or, take, min, suc, not, refl, ap, sym, ◌∙◌, arith, inl, inr, ⊎_elim, ◌&&◌, if◌then◌else◌, Result, Ok, Err}
+use Rattle.std.proofs.Common.{◌≡◌, ℕ, ◌+◌, ◌-◌, ◌^◌, ◌<◌, ◌≤◌, ℤ, pos, negsuc, ◌+ℤ◌, ◌-ℤ◌, ◌<ℤ◌, Bool, true, false, List, [], ◌∷◌, ◌⊎◌, length, take, min, suc, refl, sym, ◌∙◌, arith, inl, inr, ⊎_elim, Err}
 use Rattle.std.specs.Int.Signed.{le_z}
 use Rattle.std.specs.List.{filter, fold}
 use Rattle.std.proofs.lemmas.Bool.{cases_Bool, cases_lt}
@@ -8,12 +8,11 @@ use Rattle.std.proofs.lemmas.Int.{ints}
 use Rattle.std.proofs.lemmas.List.{length-take}
 use Rattle.std.proofs.lemmas.List.Elements.{All-take, filter_passes}
 use Rattle.dec_text.proofs.Fronts.{Digits}
-use Rattle.dec_text.specs.Decimals.{Scientific, counted, places, scientific, signed, significant, within_power, zero_decimal}
-use Rattle.dec_text.specs.Digits.{is_digit, is_zero, number, then_digit, without_leading_zeros, without_trailing_zeros}
+use Rattle.dec_text.specs.Decimals.{counted, places, scientific, signed, significant, within_power, zero_decimal}
+use Rattle.dec_text.specs.Digits.{is_digit, is_zero, number, then_digit, without_leading_zeros}
 use Rattle.dec_text.specs.Lines.{is_filled}
 use Rattle.dec_text.specs.declared.digits.TheConstants.{CAP}
-use Rattle.dec_text.specs.declared.faults.DecimalFault.{DecimalFault}
-use Rattle.dec_text.specs.declared.faults.DecimalFault.TheVariants.{Form, Power}
+use Rattle.dec_text.specs.declared.faults.DecimalFault.TheVariants.{Power}
 
 grows : (n : ℕ) (ds : List ℕ) → n ≤ fold then_digit n ds
 grows n [] = omega arith
@@ -72,11 +71,11 @@ far_power : (negative : Bool) (digits : ℕ) (p : ℤ) → (p <ℤ negsuc 399) �
 far_power negative digits p far = ⊎_elim
     (λ (low : p <ℤ negsuc 399). let test : le_z (negsuc 399) p ≡ false = grind (arith, ints) in rw test refl)
     (λ (high : pos 400 <ℤ p).
-      let test : le_z p (pos 400) ≡ false = grind (arith, ints) in
-      rw test (⊎_elim
-        (λ (above : le_z (negsuc 399) p ≡ true). rw above refl)
-        (λ (below : le_z (negsuc 399) p ≡ false). rw below refl)
-        (cases_Bool (le_z (negsuc 399) p))))
+    let test : le_z p (pos 400) ≡ false = grind (arith, ints) in
+    rw test (⊎_elim
+    (λ (above : le_z (negsuc 399) p ≡ true). rw above refl)
+    (λ (below : le_z (negsuc 399) p ≡ false). rw below refl)
+    (cases_Bool (le_z (negsuc 399) p))))
     far
 
 -- a large exponent makes a power past 400, whatever the digits are
@@ -91,6 +90,6 @@ pub power_capped : (negative : Bool) (digits : ℕ) (s : Bool) (size small lower
     ≡ within_power (record { negative = negative; digits = digits; power = (signed s size -ℤ pos lowered) +ℤ pos raised })
 power_capped negative digits s size small lowered raised capped low high = ⊎_elim
     (λ (over : CAP < size).
-      far_power negative digits _ (past s small lowered raised (omega arith) low high) ∙ sym (far_power negative digits _ (past s size lowered raised (omega arith) low high)))
+    far_power negative digits _ (past s small lowered raised (omega arith) low high) ∙ sym (far_power negative digits _ (past s size lowered raised (omega arith) low high)))
     (λ (under : size ≤ CAP). let same : small ≡ size = omega arith in rw same refl)
     (cases_lt CAP size)

@@ -1,5 +1,5 @@
 -- one more word of a line, and one more line of a text
-use Rattle.std.proofs.Common.{◌≡◌, ℕ, ◌+◌, Bool, true, false, List, [], ◌∷◌, ◌++◌, map, refl, ap, sym, ◌∙◌, ⊎_elim, append_assoc, if◌then◌else◌, cond, All}
+use Rattle.std.proofs.Common.{◌≡◌, ℕ, ◌+◌, true, false, List, [], ◌∷◌, ◌++◌, map, refl, ap, sym, ◌∙◌, ⊎_elim, append_assoc, if◌then◌else◌, cond, All}
 use Rattle.std.specs.List.{slice_range}
 use Rattle.std.proofs.lemmas.Bool.{cases_Bool}
 use Rattle.std.proofs.lemmas.List.{append-nil, map_push}
@@ -34,7 +34,7 @@ pub line_pushed : (text : List ℕ) (lines : List Line) (number : ℕ) (words : 
     → map (line_at text) (lines ++ (if is_filled words then record { number = number; words = words } ∷ [] else [])) ++ lines_from (number + 1) rest ≡ whole
 line_pushed text lines number words line rest left whole is_words is_left before =
     let next : left ≡ with_line number (map (run_at text) words) (lines_from (number + 1) rest) =
-        is_left ∙ ap (λ ws. with_line number ws (lines_from (number + 1) rest)) (sym is_words) in
+    is_left ∙ ap (λ ws. with_line number ws (lines_from (number + 1) rest)) (sym is_words) in
     line_joins text lines number words (lines_from (number + 1) rest) ∙ ap (λ rs. map (line_at text) lines ++ rs) (sym next) ∙ before
 
 -- the lines so far and this one lie within the text

@@ -14,7 +14,7 @@ scaled_value n places = signed n.negative (rounded n.digits (n.power +ℤ pos pl
 
 -- a number that is neither below the low bound nor above the high one, or the fault that it is
 abbrev pub within_bounds : ℤ → ℤ → ℤ → Result ℤ OutOfRange
-within_bounds value low high = if lt_z value low || lt_z high value then Err record { } else Ok value
+within_bounds value low high = if lt_z value low || lt_z high value then Err record {} else Ok value
 
 -- the scaled decimal, within its bounds
 abbrev pub scaled_within : Scientific → ℕ → ℤ → ℤ → Result ℤ OutOfRange

@@ -13,4 +13,4 @@ is_whole word = are_digits (after_plus word) && nat_lt (number (after_plus word)
 
 -- the whole number that a word stands for
 abbrev pub whole_number : List ℕ → Result ℕ NotWhole
-whole_number word = if is_whole word then Ok (number (after_plus word)) else Err record { }
+whole_number word = if is_whole word then Ok (number (after_plus word)) else Err record {}

@@ -4,14 +4,24 @@ ghost use Rattle.std.specs.List.{list_any, position, prefix_len};
 ghost use Rattle.dec_text.specs.Digits.{is_digit};
 ghost use Rattle.dec_text.specs.Significands.{capped};
 ghost use Rattle.dec_text.specs.Decimals.{
-    after_sign, decimal_of, exponent_of, is_exponent_letter, is_mantissa, is_mantissa_byte, is_negative, is_point, places, scientific, signed, within_power
+  after_sign,
+  decimal_of,
+  exponent_of,
+  is_exponent_letter,
+  is_mantissa,
+  is_mantissa_byte,
+  is_negative,
+  is_point,
+  places,
+  scientific,
+  signed,
+  within_power,
 };
-
-use std::marker::Model;
 
 use crate::digits::{CAP, are_digits, capped_number, is_digit};
 use crate::faults::DecimalFault;
 use crate::significand::{significant_part, without_zeros};
+use std::marker::Model;
 
 /// A decimal number: `digits` times ten to the `power`, with a sign.
 ///
@@ -56,12 +66,14 @@ pub fn read_decimal(word: &[u8]) -> Result<Decimal, DecimalFault>
 }
 
 /// The decimal of a sign, a mantissa and an exponent by its sign and size, or the fault `Power`.
-fn decimal_from(negative: bool, mantissa: &[u8], exponent: (bool, u128)) -> Result<Decimal, DecimalFault>
+fn decimal_from(
+    negative: bool,
+    mantissa: &[u8],
+    exponent: (bool, u128),
+) -> Result<Decimal, DecimalFault>
     requires { exponent.1 ≤ CAP }
-    ensures {
-        (size : ℕ) → exponent.1 ≡ min CAP size
-            → result ≡ within_power (scientific negative mantissa.now (signed exponent.0 size))
-    }
+    ensures { (size : ℕ) → exponent.1 ≡ min CAP size
+        → result ≡ within_power (scientific negative mantissa.now (signed exponent.0 size)) }
 {
     let kept = significant_part(mantissa);
     if kept.digits == 0 {
@@ -73,7 +85,11 @@ fn decimal_from(negative: bool, mantissa: &[u8], exponent: (bool, u128)) -> Resu
     }
     let (digits, zeros) = without_zeros(kept.digits);
     let exponent = signed(exponent.0, exponent.1);
-    with_power(negative, digits, moved(exponent, places(mantissa), kept.dropped, zeros))
+    with_power(
+        negative,
+        digits,
+        moved(exponent, places(mantissa), kept.dropped, zeros),
+    )
 }
 
 /// The decimal of digits that are not 0, or the fault `Power`.
@@ -99,7 +115,11 @@ pub fn signed(negative: bool, size: u128) -> i128
     ensures low { neg_ℤ (pos size) ≤ℤ result }
     ensures high { result ≤ℤ pos size }
 {
-    if negative { -(size as i128) } else { size as i128 }
+    if negative {
+        -(size as i128)
+    } else {
+        size as i128
+    }
 }
 
 /// The power of the last digit that counts: each digit after the point lowers it by one, and each

@@ -20,3 +20,6 @@ pub use digits::read_whole;
 pub use faults::{DecimalFault, NotWhole, OutOfRange};
 pub use fixed::print_fixed;
 pub use lines::{Line, Span, split};
+
+#[cfg(test)]
+mod tests;

@@ -60,7 +60,12 @@ fn push_line(lines: &mut Vec<Line>, number: u32, words: Vec<Span>) -> Result<(),
 }
 
 /// The words of the line that begins at `start` and ends before `end`.
-fn split_line(alloc: Global, bytes: &[u8], start: usize, end: usize) -> Result<Vec<Span>, OutOfMemory>
+fn split_line(
+    alloc: Global,
+    bytes: &[u8],
+    start: usize,
+    end: usize,
+) -> Result<Vec<Span>, OutOfMemory>
     requires ordered { start ≤ end }
     requires inside { end ≤ length bytes.now }
     ensures words { IfOk result (λ words. map (run_at bytes.now) words.items ≡ words_of (run start (slice_range bytes.now start end))) }
@@ -70,7 +75,12 @@ fn split_line(alloc: Global, bytes: &[u8], start: usize, end: usize) -> Result<V
 }
 
 /// The runs of bytes between blanks, from `start` on and before `end`.
-fn split_words(alloc: Global, bytes: &[u8], start: usize, end: usize) -> Result<Vec<Span>, OutOfMemory>
+fn split_words(
+    alloc: Global,
+    bytes: &[u8],
+    start: usize,
+    end: usize,
+) -> Result<Vec<Span>, OutOfMemory>
     requires ordered { start ≤ end }
     requires inside { end ≤ length bytes.now }
     ensures words { IfOk result (λ words. map (run_at bytes.now) words.items ≡ filled (runs is_blank start (slice_range bytes.now start end))) }
@@ -81,7 +91,10 @@ fn split_words(alloc: Global, bytes: &[u8], start: usize, end: usize) -> Result<
     while at < end {
         let stop = word_end(bytes, at, end);
         if at < stop {
-            words.push(Span { start: at, end: stop })?;
+            words.push(Span {
+                start: at,
+                end: stop,
+            })?;
         }
         at = stop + 1;
     }

@@ -46,7 +46,10 @@ fn with_digit(kept: Significand, digit: u8) -> Significand
     ensures dropped { result.dropped ≤ kept.dropped + 1 }
 {
     if kept.count == COUNTED {
-        Significand { dropped: kept.dropped + 1, ..kept }
+        Significand {
+            dropped: kept.dropped + 1,
+            ..kept
+        }
     } else if kept.count == 0 && digit == b'0' {
         kept
     } else {
@@ -64,9 +67,7 @@ pub fn without_zeros(digits: u64) -> (u64, u64)
     ensures positive { 0 < result.0 % 10 }
     ensures smaller { result.0 ≤ digits }
     ensures digits { (ds : List ℕ) → All (λ d. is_digit d ≡ true) ds → number ds ≡ digits → number (without_trailing_zeros ds) ≡ result.0 }
-    ensures zeros {
-        (ds : List ℕ) → All (λ d. is_digit d ≡ true) ds → number ds ≡ digits → length (without_trailing_zeros ds) + result.1 ≡ length ds
-    }
+    ensures zeros { (ds : List ℕ) → All (λ d. is_digit d ≡ true) ds → number ds ≡ digits → length (without_trailing_zeros ds) + result.1 ≡ length ds }
 {
     let mut rest = digits;
     let mut zeros = 0;

@@ -22,12 +22,12 @@ sound : (names : List (List ℕ)) (name : List ℕ) (at j : ℕ) → position_fr
 sound [] name at j found = absurd (let e : ⊥ = cc in e)
 sound (n ∷ ns) name at j found = ⊎_elim
     (λ (here : bytes_eq n name ≡ true).
-      let first : Some at ≡ Some j = rw here at found in
-      let place : at ≡ j = cc in
-      record { offset = 0; place = omega arith; stands = ap Some (same_name n name here) })
+    let first : Some at ≡ Some j = rw here at found in
+    let place : at ≡ j = cc in
+    record { offset = 0; place = omega arith; stands = ap Some (same_name n name here) })
     (λ (there : bytes_eq n name ≡ false).
-      let rest : StandsAt ns name (at + 1) j = sound ns name (at + 1) j (rw there at found) in
-      record { offset = suc rest.offset; place = omega (arith, rest.place); stands = rest.stands })
+    let rest : StandsAt ns name (at + 1) j = sound ns name (at + 1) j (rw there at found) in
+    record { offset = suc rest.offset; place = omega (arith, rest.place); stands = rest.stands })
     (cases_Bool (bytes_eq n name))
 
 neither : (x y : Bool) → (x || y) ≡ false → (x ≡ false) × (y ≡ false)
@@ -57,12 +57,13 @@ complete (n ∷ ns) name at (suc i) distinct stands =
     rw (differs ns name n i stands parts.0) (complete ns name (at + 1) i parts.1 stands ∙ ap Some place)
 
 pub place_found : (names : List (List ℕ)) (name : List ℕ) → IsTrue (are_distinct names) → (i : ℕ) → (place_of names name ≡ Some i) ↔ (slice_get names i ≡ Some name)
-place_found names name distinct i =
-    ( (λ found.
-        let at : StandsAt names name 0 i = sound names name 0 i found in
-        let same : i ≡ at.offset = omega (arith, at.place) in
-        rw same at.stands)
-    , (λ stands. let same : 0 + i ≡ i = omega arith in complete names name 0 i distinct stands ∙ ap Some same))
+place_found names name distinct i = (
+  (λ found.
+      let at : StandsAt names name 0 i = sound names name 0 i found in
+      let same : i ≡ at.offset = omega (arith, at.place) in
+      rw same at.stands),
+  (λ stands. let same : 0 + i ≡ i = omega arith in complete names name 0 i distinct stands ∙ ap Some same),
+)
 
 none_stands : (names : List (List ℕ)) (name : List ℕ) (r : Option ℕ) → place_of names name ≡ r → ((i : ℕ) → slice_get names i ≡ Some name → ⊥) → IsNone r
 none_stands names name None e nowhere = refl
@@ -73,9 +74,10 @@ not_both None i none e = cc
 not_both (Some j) i none e = let f : true ≡ false = none in cc
 
 pub place_none : (names : List (List ℕ)) (name : List ℕ) → IsTrue (are_distinct names) → IsNone (place_of names name) ↔ ((i : ℕ) → slice_get names i ≡ Some name → ⊥)
-place_none names name distinct =
-    ( (λ none i stands. not_both (place_of names name) i none ((place_found names name distinct i).1 stands))
-    , none_stands names name (place_of names name) refl)
+place_none names name distinct = (
+  (λ none i stands. not_both (place_of names name) i none ((place_found names name distinct i).1 stands)),
+  none_stands names name (place_of names name) refl,
+)
 
 inside : (names : List (List ℕ)) (name : List ℕ) (i : ℕ) → slice_get names i ≡ Some name → i < length names
 inside [] name i stands = absurd (let e : ⊥ = cc in e)

@@ -2,9 +2,8 @@ ghost use Rattle.std.specs.Prelude.{◌≡◌, ◌≤◌, ◌<◌, ◌↔◌, �
 ghost use Rattle.std.specs.Option.{option_map};
 ghost use Rattle.species_book.specs.Book.{are_distinct, names_of, place_of, species};
 
-use std::marker::Model;
-
 use kmc_base::SpeciesId;
+use std::marker::Model;
 
 /// The names of a deck's gas species and surface species, and the dentates of the latter.
 #[derive(Debug, Drop)]

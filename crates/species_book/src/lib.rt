@@ -8,3 +8,6 @@
 mod book;
 
 pub use book::SpeciesBook;
+
+#[cfg(test)]
+mod tests;

@@ -9,7 +9,7 @@ use Rattle.dec_text.proofs.decimal.decimal_from.Goals as goal
 pub returns-then-kept-eq0 : goal.returns-then-kept-eq0
 returns-then-kept-eq0 c size capped =
     sym (ap within_power (scientific_none c.args.negative c.args.mantissa.now (signed c.args.exponent.0 size)
-      (sym c.significant_part-kept.ensures.value ∙ c.if-kept-eq0.true)))
+    (sym c.significant_part-kept.ensures.value ∙ c.if-kept-eq0.true)))
 
 pub with_power-requires-clause-fit : goal.with_power-requires-clause-fit
 with_power-requires-clause-fit c =
@@ -25,7 +25,7 @@ returns c size capped =
     let trimmed = c.without_zeros-digits.ensures.zeros (take 18 (significant m)) digits (sym kept.value) in
     let exact = scientific_some c.args.negative m (signed c.args.exponent.0 size) _ _ _ value (omega arith) trimmed kept.dropped in
     let power : to_z w128 (of_z w128 c.moved.result) ≡ (signed c.args.exponent.0 c.args.exponent.1 -ℤ pos (places m)) +ℤ pos (c.significant_part-kept.result.dropped + c.without_zeros-digits.result.1) =
-        omega (arith, ints, c.moved.ensures, c.signed-exponent.ensures, c.places.ensures) in
+    omega (arith, ints, c.moved.ensures, c.signed-exponent.ensures, c.places.ensures) in
     c.with_power.ensures
     ∙ ap (λ p. within_power (record { negative = c.args.negative; digits = c.without_zeros-digits.result.0; power = p })) power
     ∙ power_capped c.args.negative c.without_zeros-digits.result.0 c.args.exponent.0 size c.args.exponent.1 (places m) _ capped (omega arith) (omega arith)

@@ -6,8 +6,8 @@ pub returns : goal.returns
 returns c =
     let sign = c.split_sign-negative.ensures in
     decimal_of_is c.args.word.now _ _ _ c.in-Some.exponent _ sign.negative
-      (c.split_at.ensures.front ∙ front_is c.args.word.now _ _ c.mantissa_len.ensures.length sign.rest)
-      (c.split_at.ensures.back ∙ rest_is c.args.word.now _ _ c.mantissa_len.ensures.length sign.rest)
-      c.in-Some.ensures
-      (sym c.is_mantissa.ensures ∙ c.if-not-is_mantissa.false)
-      c.decimal_from.ensures
+    (c.split_at.ensures.front ∙ front_is c.args.word.now _ _ c.mantissa_len.ensures.length sign.rest)
+    (c.split_at.ensures.back ∙ rest_is c.args.word.now _ _ c.mantissa_len.ensures.length sign.rest)
+    c.in-Some.ensures
+    (sym c.is_mantissa.ensures ∙ c.if-not-is_mantissa.false)
+    c.decimal_from.ensures

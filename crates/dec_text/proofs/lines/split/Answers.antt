@@ -14,9 +14,9 @@ loop-start-preserved c =
     let next = next_run is_line_feed text c.loop-start.start (length text) end c.loop-start-test.true (omega arith) c.line_end-end.ensures.place in
     rw c.in_ok-push_line.ensures (record {
       lines = line_pushed _ _ _ _ (run c.loop-start.start (slice_range text c.loop-start.start end)) (runs is_line_feed (end + 1) (slice_range text (end + 1) (length text))) _ _
-        c.in_ok-words.ensures.words
-        (ap (lines_from c.loop-start.number) next)
-        c.loop-start.invariant.lines;
+          c.in_ok-words.ensures.words
+          (ap (lines_from c.loop-start.number) next)
+          c.loop-start.invariant.lines;
       within = within_pushed _ _ _ _ c.loop-start.invariant.within c.in_ok-words.ensures.within;
       start_in = omega arith;
       number_in = omega arith;

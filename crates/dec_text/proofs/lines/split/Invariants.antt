@@ -8,7 +8,7 @@ use Rattle.dec_text.proofs.lines.split.Given as goal
 abbrev pub invariant-loop-start : goal.invariant-loop-start
 invariant-loop-start l = record {
   lines : map (line_at l.bytes) l.lines.items ++ lines_from l.number (runs is_line_feed l.start (slice_range l.bytes l.start (length l.bytes)))
-    ≡ word_lines l.bytes;
+      ≡ word_lines l.bytes;
   within : All (AreWithin l.bytes) l.lines.items;
   start_in : l.start ≤ length l.bytes + 1;
   number_in : l.number ≤ l.start + 1;

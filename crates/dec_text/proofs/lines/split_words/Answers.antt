@@ -1,4 +1,4 @@
-use Rattle.std.proofs.Common.{arith, ◌<◌, ◌≤◌, length}
+use Rattle.std.proofs.Common.{arith, ◌<◌}
 use Rattle.std.proofs.lemmas.List.Elements.{All-push}
 use Rattle.dec_text.proofs.Runs.{next_word, no_word}
 use Rattle.dec_text.proofs.Words.{word_pushed}
@@ -11,10 +11,10 @@ pub loop-at-preserved : goal.loop-at-preserved
 loop-at-preserved c =
     let before : c.loop-at.at < c.args.end = omega arith in
     elim c.if-at-stop.branch [
-      then-at-stop+in_ok-push w ↦ rw (w.words-is, w.in_ok-push.ensures.items) (record {
+      | then-at-stop+in_ok-push w ↦ rw (w.words-is, w.in_ok-push.ensures.items) (record {
         words = word_pushed _ _ _ _ _ _ _
-          (next_word is_blank c.args.bytes.now c.loop-at.at c.args.end c.word_end-stop.result before c.requires.inside c.word_end-stop.ensures.place w.if-at-stop.true)
-          c.loop-at.invariant.words;
+            (next_word is_blank c.args.bytes.now c.loop-at.at c.args.end c.word_end-stop.result before c.requires.inside c.word_end-stop.ensures.place w.if-at-stop.true)
+            c.loop-at.invariant.words;
         within = All-push (IsWithin c.args.bytes.now) _ _ c.loop-at.invariant.within (record { filled = w.if-at-stop.true; inside = omega arith });
       })
       | else-at-stop w ↦ rw w.words-is (record {

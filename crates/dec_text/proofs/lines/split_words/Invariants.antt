@@ -8,7 +8,7 @@ use Rattle.dec_text.proofs.lines.split_words.Given as goal
 abbrev pub invariant-loop-at : goal.invariant-loop-at
 invariant-loop-at l = record {
   words : map (run_at l.bytes) l.words.items ++ filled (runs is_blank l.at (slice_range l.bytes l.at l.end))
-    ≡ filled (runs is_blank l.start (slice_range l.bytes l.start l.end));
+      ≡ filled (runs is_blank l.start (slice_range l.bytes l.start l.end));
   within : All (IsWithin l.bytes) l.words.items;
 }
 

@@ -1,4 +1,4 @@
-use Rattle.std.proofs.Common.{◌≡◌, ◌≤◌, take}
+use Rattle.std.proofs.Common.{◌≤◌, take}
 use Rattle.dec_text.specs.Decimals.{significant}
 use Rattle.dec_text.specs.Significands.{Keeps}
 use Rattle.dec_text.proofs.significand.significant_part.Given as goal
