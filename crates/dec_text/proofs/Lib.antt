@@ -5,6 +5,9 @@ pub mod Fronts
 pub mod Places
 pub mod Powers
 pub mod Printing
+pub mod PrintedDigits
+pub mod PrintedParts
+pub mod ReadingBack
 pub mod Readings
 pub mod Rounding
 pub mod Runs

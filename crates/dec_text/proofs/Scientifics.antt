@@ -1,12 +1,12 @@
 -- the number that a mantissa and an exponent stand for
-use Rattle.std.proofs.Common.{◌≡◌, ℕ, ◌+◌, ◌-◌, ◌^◌, ◌<◌, ◌≤◌, ℤ, pos, negsuc, ◌+ℤ◌, ◌-ℤ◌, ◌<ℤ◌, Bool, true, false, List, [], ◌∷◌, ◌⊎◌, length, take, min, suc, refl, sym, ◌∙◌, arith, inl, inr, ⊎_elim, Err}
+use Rattle.std.proofs.Common.{◌≡◌, ℕ, ◌+◌, ◌-◌, ◌^◌, ◌<◌, ◌≤◌, ℤ, pos, negsuc, ◌+ℤ◌, ◌-ℤ◌, ◌<ℤ◌, Bool, true, false, List, [], ◌∷◌, ◌++◌, ◌⊎◌, length, take, min, suc, refl, sym, ◌∙◌, arith, inl, inr, ⊎_elim, Err}
 use Rattle.std.specs.Int.Signed.{le_z}
 use Rattle.std.specs.List.{filter, fold}
 use Rattle.std.proofs.lemmas.Bool.{cases_Bool, cases_lt}
 use Rattle.std.proofs.lemmas.Bool.Decides.{nat_tests}
 use Rattle.std.proofs.lemmas.Int.{ints}
 use Rattle.std.proofs.lemmas.List.{length-take}
-use Rattle.std.proofs.lemmas.List.Elements.{All-take, filter_passes}
+use Rattle.std.proofs.lemmas.List.Elements.{All-append, All-take, filter_passes}
 use Rattle.dec_text.proofs.Fronts.{Digits}
 use Rattle.dec_text.specs.Decimals.{counted, places, scientific, signed, significant, within_power, zero_decimal}
 use Rattle.dec_text.specs.Digits.{is_digit, is_zero, number, then_digit, without_leading_zeros}
@@ -18,7 +18,7 @@ grows : (n : ℕ) (ds : List ℕ) → n ≤ fold then_digit n ds
 grows n [] = omega arith
 grows n (d ∷ ds) = omega (arith, grows (then_digit n d) ds)
 
-Digits-tail : (d : ℕ) (ds : List ℕ) → Digits (d ∷ ds) → Digits ds
+pub Digits-tail : (d : ℕ) (ds : List ℕ) → Digits (d ∷ ds) → Digits ds
 Digits-tail d ds digits k e inside = digits (suc k) e (omega arith)
 
 Digits-without_leading_zeros : (ds : List ℕ) → Digits ds → Digits (without_leading_zeros ds)
@@ -93,3 +93,6 @@ power_capped negative digits s size small lowered raised capped low high = ⊎_e
     far_power negative digits _ (past s small lowered raised (omega arith) low high) ∙ sym (far_power negative digits _ (past s size lowered raised (omega arith) low high)))
     (λ (under : size ≤ CAP). let same : small ≡ size = omega arith in rw same refl)
     (cases_lt CAP size)
+
+pub Digits-append : (xs ys : List ℕ) → Digits xs → Digits ys → Digits (xs ++ ys)
+Digits-append xs ys = All-append (λ d. is_digit d ≡ true) xs ys

@@ -7,3 +7,4 @@ pub mod Wholes
 pub mod Significands
 pub mod Scaled
 pub mod Fixed
+pub mod ReadBack

@@ -1,5 +1,7 @@
-ghost use Rattle.std.specs.Prelude.{◌≡◌, ◌+◌, ◌%◌, ◌≤◌, if◌then◌else◌, ◌++◌, ◌∷◌, [], OnErr, OnOk};
+ghost use Rattle.std.specs.Prelude.{◌≡◌, ◌^◌, ◌<◌, ◌+◌, ◌%◌, ◌≤◌, if◌then◌else◌, ℕ, ℤ, ◌++◌, ◌∷◌, [], OnErr, OnOk};
 ghost use Rattle.std.specs.Fmt.{decimal};
+ghost use Rattle.std.specs.Int.RustNames.{unsigned_abs};
+ghost use Rattle.dec_text.specs.ReadBack.{ReadsBack};
 ghost use Rattle.dec_text.specs.Fixed.{Extends, fixed_text, last_digits};
 
 use kmc_base::OutOfMemory;
@@ -82,3 +84,8 @@ fn push_digit(number: u128, out: &mut Vec<u8>) -> Result<(), OutOfMemory>
     out.push(b'0' + (number % 10) as u8)?;
     Ok(())
 }
+
+/// What is printed of a number of up to 18 digits is read back as that number.
+pub fn printed_reads_back()
+    ensures { (v : ℤ) (decimals : ℕ) → decimals ≤ 18 → unsigned_abs v < 10 ^ 18 → ReadsBack v decimals }
+{}

@@ -18,7 +18,7 @@ mod significand;
 pub use decimal::{Decimal, read_decimal};
 pub use digits::read_whole;
 pub use faults::{DecimalFault, NotWhole, OutOfRange};
-pub use fixed::print_fixed;
+pub use fixed::{print_fixed, printed_reads_back};
 pub use lines::{Line, Span, split};
 
 #[cfg(test)]

@@ -102,6 +102,7 @@ fn scales_decimals(rt: HostRuntime) -> Result<(), Fail> {
 
 #[test]
 fn prints_fixed(rt: HostRuntime) -> Result<(), Fail> {
+    printed_reads_back();
     for (value, decimals, want) in [
         (0, 18, "0.000000000000000000"),
         (1, 18, "0.000000000000000001"),
