@@ -1,4 +1,4 @@
-ghost use Rattle.std.specs.Prelude.{◌-◌, ◌^◌, ◌<◌, length};
+ghost use Rattle.std.specs.Prelude.{◌-◌, ◌^◌, ◌<◌, ◌≤◌, length};
 
 use super::*;
 use std::test::Fail;
@@ -100,20 +100,29 @@ fn scales_decimals(rt: HostRuntime) -> Result<(), Fail> {
     Ok(())
 }
 
+/// What is printed after two bytes that were there.
+fn printed(rt: &HostRuntime, value: i128, decimals: u32) -> Result<Vec<u8>, Fail>
+    requires some { 1 ≤ decimals }
+    requires most { decimals ≤ 18 }
+{
+    let mut out = Vec::from_slice(rt.alloc(), b"t=")?;
+    print_fixed(value, decimals, &mut out)?;
+    Ok(out)
+}
+
 #[test]
 fn prints_fixed(rt: HostRuntime) -> Result<(), Fail> {
     printed_reads_back();
     for (value, decimals, want) in [
-        (0, 18, "0.000000000000000000"),
-        (1, 18, "0.000000000000000001"),
-        (-3_000_000_000, 9, "-3.000000000"),
-        (500_000, 3, "500.000"),
-        (-1, 1, "-0.1"),
-        (i128::MIN, 1, "-17014118346046923173168730371588410572.8"),
+        (0, 18, "t=0.000000000000000000"),
+        (1, 18, "t=0.000000000000000001"),
+        (-3_000_000_000, 9, "t=-3.000000000"),
+        (500_000, 3, "t=500.000"),
+        (-1, 1, "t=-0.1"),
+        (i128::MIN, 1, "t=-17014118346046923173168730371588410572.8"),
     ] {
-        let mut out = b"t=".to_vec(rt.alloc())?;
-        print_fixed(value, decimals, &mut out)?;
-        assert_eq!(rt; out.get(2..), Some(want.as_bytes()), "{want}");
+        let text = printed(&rt, value, decimals)?;
+        assert_eq!(rt; text.as_slice(), want.as_bytes(), "{want}");
     }
     Ok(())
 }
