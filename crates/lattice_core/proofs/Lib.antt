@@ -1,0 +1,11 @@
+pub mod Faults
+pub mod Members
+pub mod Merging
+pub mod Numbers
+pub mod Places
+pub mod Rising
+pub mod Searching
+pub mod Sorting
+pub mod Sound
+pub mod Steps
+pub mod Tests

@@ -1,0 +1,4 @@
+pub mod Ball
+pub mod Fault
+pub mod Lattice
+pub mod SiteList
