@@ -1,15 +1,14 @@
 -- The first fault, by cases; lists that name the same have the same; and lists without one make a lattice.
-use Rattle.std.proofs.Common.{◌≡◌, ℕ, ◌+◌, ◌<◌, ◌≤◌, Bool, true, false, not, cond, ltb, List, [], ◌∷◌, length, get_or, map, drop, find, is_some, All, Option, Some, None, inl, inr, refl, sym, subst, eqb, ◌∙◌, ap, arith}
-use Rattle.std.specs.List.{range_with_len, list_any}
-use Rattle.std.specs.List.Sorted.{IsStrictlyIncreasing}
+use Rattle.std.proofs.Common.{◌≡◌, ℕ, ◌+◌, ◌<◌, ◌≤◌, true, false, cond, List, [], ◌∷◌, length, get_or, drop, is_some, Option, Some, None, inl, inr, refl, sym, subst, eqb, ◌∙◌, ap, arith}
+use Rattle.std.specs.List.{range_with_len}
 use Rattle.std.specs.Option.{option_map}
 use Rattle.std.proofs.lemmas.Bool.{cases_Bool, cond-true, cond-false, or_cases, eqb-true, false≢true, both_ways}
 use Rattle.std.proofs.lemmas.List.{at_drop_more, at_drop_all}
 use Rattle.std.proofs.lemmas.List.FromFn.{length-range_with_len, get_or-range_with_len}
 use Rattle.lattice_core.specs.declared.fault.GraphFault.{GraphFault}
 use Rattle.lattice_core.specs.declared.fault.GraphFault.TheVariants.{BadSite, SelfNeighbour, TooMany, OneSided}
-use Rattle.lattice_core.specs.Fault.{has_bad_site, has_itself, has_too_many, one_sided, site_fault, fault_among, first_fault}
-use Rattle.lattice_core.specs.SiteList.{is_listed, list_of, merged, AreMerged}
+use Rattle.lattice_core.specs.Fault.{has_bad_site, has_itself, has_too_many, one_sided, site_fault, fault_among}
+use Rattle.lattice_core.specs.SiteList.{is_listed}
 
 module _ (lists : List (List ℕ)) (s : ℕ) where
   pub fault-bad_site : has_bad_site lists s ≡ true → site_fault lists s ≡ Some (BadSite s)

@@ -1,3 +1,5 @@
+pub mod Adding
+pub mod Balls
 pub mod Faults
 pub mod Members
 pub mod Merging
@@ -9,3 +11,4 @@ pub mod Sorting
 pub mod Sound
 pub mod Steps
 pub mod Tests
+pub mod Walks

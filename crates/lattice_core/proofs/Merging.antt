@@ -1,8 +1,8 @@
 -- A rising list is the filter that it passes.
-use Rattle.std.proofs.Common.{◌≡◌, ℕ, ◌+◌, ◌<◌, ◌≤◌, Bool, true, false, ◌&&◌, ltb, leb, List, [], length, get_or, filter, All, inl, inr, refl, sym, ◌∙◌, ap, arith, Contains}
+use Rattle.std.proofs.Common.{◌≡◌, ℕ, ◌+◌, ◌<◌, Bool, true, false, ◌&&◌, ltb, leb, List, get_or, filter, All, inl, inr, refl, sym, ◌∙◌, ap, arith}
 use Rattle.std.specs.List.{range_with_len, list_any}
 use Rattle.std.specs.List.Sorted.{IsStrictlyIncreasing}
-use Rattle.std.proofs.lemmas.Bool.{cases_Bool, leb-false, both_ways, lt-ltb, false≢true, and_right}
+use Rattle.std.proofs.lemmas.Bool.{cases_Bool, leb-false, both_ways, lt-ltb, and_right}
 use Rattle.std.proofs.lemmas.Bool.Decides.{nat_tests}
 use Rattle.std.proofs.lemmas.List.Elements.{All-contains, filter_agree}
 use Rattle.std.proofs.lemmas.List.Folds.{list_any_at}
@@ -38,7 +38,7 @@ pub below-listed : (n : ℕ) (xs : List ℕ) (s : ℕ) → All (λ t. t < n) xs 
 below-listed n xs s below h = All-contains (λ t. t < n) xs s below (Contains-from_listed xs s h)
 
 -- so the test for a site changes nothing
-listed-below : (n : ℕ) (xs : List ℕ) (s : ℕ) → All (λ t. t < n) xs → is_listed xs s ≡ (ltb s n && is_listed xs s)
+pub listed-below : (n : ℕ) (xs : List ℕ) (s : ℕ) → All (λ t. t < n) xs → is_listed xs s ≡ (ltb s n && is_listed xs s)
 listed-below n xs s below =
     elim (cases_Bool (is_listed xs s))
     [ inl t ↦ let e = lt-ltb s n (below-listed n xs s below t) in rw (t, e) refl | inr f ↦ rw f (sym (and_right (ltb s n) false refl)) ]

@@ -1,5 +1,5 @@
 -- The place of a number in a list.
-use Rattle.std.proofs.Common.{◌≡◌, ℕ, ◌+◌, ◌<◌, ◌≤◌, Bool, true, false, cond, eqb, ltb, List, length, get_or, Option, Some, None, is_some, inl, inr, refl, sym, ap, ◌∙◌, arith, slice_get, IfSome}
+use Rattle.std.proofs.Common.{◌≡◌, ℕ, ◌<◌, Bool, false, cond, eqb, ltb, List, length, get_or, Option, Some, None, is_some, inl, inr, sym, ap, ◌∙◌, arith, slice_get, IfSome}
 use Rattle.std.specs.Option.{option_map}
 use Rattle.kmc_base.specs.declared.ids.SiteId.{SiteId}
 use Rattle.std.specs.List.{list_any, position, position_or_len}

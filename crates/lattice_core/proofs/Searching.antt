@@ -1,8 +1,7 @@
 -- What a binary search over sites in rising order finds.
-use Rattle.std.proofs.Common.{◌≡◌, ℕ, ◌+◌, ◌<◌, ◌≤◌, Bool, true, false, List, Result, Ok, Err, length, get_or, refl, sym, ◌∙◌, arith, nat_cmp, Contains, is_ok, Less, Equal, Greater, inl, inr}
+use Rattle.std.proofs.Common.{◌≡◌, ℕ, ◌+◌, ◌<◌, List, Result, Ok, Err, length, get_or, sym, ◌∙◌, arith, nat_cmp, is_ok, Less, Equal, Greater, inl, inr}
 use Rattle.std.specs.Ordering.{is_lt}
-use Rattle.std.specs.Cmp.{IsTotalOrder}
-use Rattle.std.specs.List.Sorted.{IsStrictlyIncreasing, IsSortedBy, IsBinarySearchResult, IsSearchInRange, IsNonDecreasingBy}
+use Rattle.std.specs.List.Sorted.{IsStrictlyIncreasing, IsSortedBy, IsBinarySearchResult, IsSearchInRange}
 use Rattle.std.proofs.lemmas.Bool.{false_from_ne_true, cases_lt}
 use Rattle.std.proofs.lemmas.Cmp.{ranked, nat_cmp_total}
 use Rattle.std.proofs.lemmas.List.{get_or-map, length-map}

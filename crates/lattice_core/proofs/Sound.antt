@@ -1,9 +1,9 @@
 -- Lists that name the same have the same faults, and lists without a fault make a lattice.
-use Rattle.std.proofs.Common.{◌≡◌, ℕ, ◌+◌, ◌<◌, ◌≤◌, Bool, true, false, not, cond, ltb, leb, List, [], ◌∷◌, length, get_or, map, find, is_some, All, Option, Some, None, inl, inr, refl, sym, subst, ◌∙◌, ap, arith}
+use Rattle.std.proofs.Common.{◌≡◌, ℕ, ◌+◌, ◌<◌, ◌≤◌, Bool, true, false, not, List, [], ◌∷◌, length, map, All, Option, Some, None, inl, inr, refl, sym, ◌∙◌, ap, arith}
 use Rattle.std.specs.List.{range_with_len, list_any}
 use Rattle.std.specs.List.Sorted.{IsStrictlyIncreasing}
 use Rattle.std.specs.Option.{option_map}
-use Rattle.std.proofs.lemmas.Bool.{cases_Bool, cases_lt, ltb-false, lt-ltb, cond-true, cond-false, false≢true, both_ways, not-false, and_from, le-leb}
+use Rattle.std.proofs.lemmas.Bool.{cases_Bool, cases_lt, ltb-false, lt-ltb, false≢true, not-false, and_from, le-leb}
 use Rattle.std.proofs.lemmas.List.{get_or_past, same_lists, get_or-map, length-map, get_or_default}
 use Rattle.std.proofs.lemmas.List.Elements.{All-nil}
 use Rattle.std.proofs.lemmas.List.Folds.{Any-from_list_any, list_any-from_Any}
@@ -11,13 +11,12 @@ use Rattle.std.proofs.lemmas.Option.{none-some}
 use Rattle.kmc_base.specs.declared.ids.TheConstants.{MAX_SITES}
 use Rattle.lattice_core.specs.declared.graph.TheConstants.{MAX_NEIGHBOURS}
 use Rattle.lattice_core.specs.declared.fault.GraphFault.{GraphFault}
-use Rattle.lattice_core.specs.declared.fault.GraphFault.TheVariants.{BadSite, SelfNeighbour, TooMany, OneSided}
-use Rattle.lattice_core.specs.Fault.{has_bad_site, has_itself, has_too_many, one_sided, site_fault, fault_among, first_fault, lattice_from, merged_of}
+use Rattle.lattice_core.specs.Fault.{has_bad_site, has_itself, has_too_many, one_sided, site_fault, fault_among, first_fault, merged_of}
 use Rattle.lattice_core.specs.Lattice.{IsLattice}
 use Rattle.lattice_core.specs.SiteList.{is_listed, list_of, merged, AreMerged}
 use Rattle.lattice_core.proofs.Faults.{fault-bad_site, fault-itself, fault-too_many, fault-one_sided, site_fault-none}
-use Rattle.lattice_core.proofs.Members.{Contains-from_listed, listed-from_Contains}
-use Rattle.lattice_core.proofs.Merging.{All-below, merged-is, merged-same, below-listed}
+use Rattle.lattice_core.proofs.Members.{Contains-from_listed, listed-from_Contains, same_answers}
+use Rattle.lattice_core.proofs.Merging.{All-below, merged-is, merged-same}
 use Rattle.lattice_core.proofs.Rising.{is_listed-range}
 use Rattle.lattice_core.proofs.Steps.{find-agree, fails-from_none}
 
@@ -28,11 +27,6 @@ list_any-same p xs ys same h =
     let listed = listed-from_Contains xs found.1 (found.0, found.2, found.3) in
     let c = Contains-from_listed ys found.1 (sym (same found.1) ∙ listed) in
     list_any-from_Any p ys (c.0, found.1, c.1, c.2, found.4)
-
-same_answers : (a b : Bool) → (a ≡ true → b ≡ true) → (b ≡ true → a ≡ true) → a ≡ b
-same_answers true b there back = sym (there refl)
-same_answers false true there back = back refl
-same_answers false false there back = refl
 
 module _ (before after : List (List ℕ)) (is : AreMerged before after) where
   bad_site-same : (s : ℕ) → has_bad_site after s ≡ has_bad_site before s

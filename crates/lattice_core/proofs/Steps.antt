@@ -1,13 +1,11 @@
 -- The steps of a search that goes along a list.
-use Rattle.std.proofs.Common.{◌≡◌, ℕ, ◌+◌, ◌<◌, ◌≤◌, Bool, true, false, List, [], ◌∷◌, length, get_or, drop, find, Option, Some, None, inl, inr, refl, sym, subst, eqb, ◌∙◌, ap, arith, All}
+use Rattle.std.proofs.Common.{◌≡◌, ℕ, ◌+◌, ◌<◌, ◌≤◌, Bool, true, false, List, [], ◌∷◌, length, get_or, drop, find, Some, None, inl, inr, refl, sym, subst, eqb, ◌∙◌, ap, arith, All}
 use Rattle.std.proofs.lemmas.Bool.{cond-true, cond-false, cases_Bool, or_cases, eqb-true, false≢true}
 use Rattle.std.proofs.lemmas.List.{at_drop_more, at_drop_all, length-map}
-use Rattle.std.proofs.lemmas.List.Folds.{find_at}
 use Rattle.std.proofs.lemmas.Option.{none-some}
 use Rattle.kmc_base.specs.declared.ids.SiteId.{SiteId}
 use Rattle.lattice_core.specs.SiteList.{site_numbers, is_listed}
 use Rattle.lattice_core.proofs.Searching.{number_at}
-use Rattle.lattice_core.proofs.Members.{Contains-from_listed}
 
 -- the first that is left passes
 pub find_here : (p : ℕ → Bool) (xs : List ℕ) (i : ℕ) → i < length xs → p (get_or xs i 0) ≡ true → find p (drop i xs) ≡ Some (get_or xs i 0)
@@ -40,7 +38,7 @@ find-agree p q same (x ∷ xs) = rw (same x, find-agree p q same xs) refl
 abbrev pub number_of : List SiteId → ℕ → ℕ
 number_of list i = (get_or list i (record { 0 = 0 })).0
 
-number_of-is : (list : List SiteId) (i : ℕ) → i < length list → (i < length (site_numbers list)) × (get_or (site_numbers list) i 0 ≡ number_of list i)
+pub number_of-is : (list : List SiteId) (i : ℕ) → i < length list → (i < length (site_numbers list)) × (get_or (site_numbers list) i 0 ≡ number_of list i)
 number_of-is list i within = (omega (arith, length-map list (λ (s : SiteId). s.0)), number_at list i 0 within)
 
 -- the same steps along a list of sites

@@ -1,6 +1,6 @@
 -- The first fault of lists of neighbours: that of the least site that has one, and at one site the first of the
 -- order no site, its own neighbour, too many, one-sided.
-use Rattle.std.specs.Prelude.{ℕ, ◌≡◌, ◌<◌, Bool, not, List, [], ◌∷◌, length, map, Option, Some, None, nat_lt, nat_le, find, is_some, if◌then◌else◌}
+use Rattle.std.specs.Prelude.{ℕ, Bool, not, List, [], ◌∷◌, length, map, Option, Some, None, nat_lt, nat_le, find, is_some, if◌then◌else◌}
 use Rattle.std.specs.List.{list_any, range_with_len}
 use Rattle.std.specs.Option.{option_map}
 use Rattle.lattice_core.specs.declared.fault.GraphFault.{GraphFault}

@@ -1,5 +1,5 @@
 -- The lattice of a surface (Stamatakis and Vlachos 2011): sites that are neighbours of one another.
-use Rattle.std.specs.Prelude.{ℕ, ◌≡◌, ◌≤◌, ◌<◌, Bool, true, false, List, [], length, All, Option, slice_index, slice_index_or, slice_get, position, ◌==◌}
+use Rattle.std.specs.Prelude.{ℕ, ◌≡◌, ◌≤◌, ◌<◌, Bool, true, false, List, [], length, All, Option, slice_index_or, slice_get, position, ◌==◌}
 use Rattle.std.specs.List.{range_with_len}
 use Rattle.std.specs.List.Sorted.{IsStrictlyIncreasing}
 use Rattle.kmc_base.specs.declared.ids.TheConstants.{MAX_SITES}

@@ -1,7 +1,7 @@
 ghost use Rattle.std.specs.Prelude.{◌≡◌, ◌==◌, ◌||◌, ◌↔◌, ◌<◌, ℕ, All, Contains, OnOk, IfOk, length, drop, vec_len, false, slice_index_or, []};
 ghost use Rattle.std.specs.List.{list_any};
 ghost use Rattle.lattice_core.specs.Ball.{ball, is_reached, IsNear};
-ghost use Rattle.lattice_core.specs.Lattice.{site_count, neighbours_of};
+ghost use Rattle.lattice_core.specs.Lattice.{site_count, neighbours_of, IsLattice};
 ghost use Rattle.lattice_core.specs.SiteList.{site_numbers, is_listed, Adds, BeginsWith};
 
 use kmc_base::{OutOfMemory, SiteId};
@@ -63,7 +63,8 @@ impl Visited {
 
     /// Visits the neighbours of each site that was visited, from a place of the order on.
     fn visit_neighbours(&mut self, graph: &Graph, first: usize) -> Result<(), OutOfMemory>
-        requires { vec_len self.old.marks ≡ site_count graph.now }
+        requires count { vec_len self.old.marks ≡ site_count graph.now }
+        requires lattice { IsLattice graph.now }
         ensures count { vec_len self.new.marks ≡ vec_len self.old.marks }
         ensures adds { OnOk result (Adds (site_numbers self.old.sites.items) (site_numbers self.new.sites.items)
             (λ s. list_any (λ f. is_listed (neighbours_of graph.now f) s) (drop first (site_numbers self.old.sites.items)))) }
@@ -78,7 +79,8 @@ impl Visited {
 
     /// Visits what a walk of so many steps reaches from the visited sites.
     fn visit_within(&mut self, graph: &Graph, radius: u32) -> Result<(), OutOfMemory>
-        requires { vec_len self.old.marks ≡ site_count graph.now }
+        requires count { vec_len self.old.marks ≡ site_count graph.now }
+        requires lattice { IsLattice graph.now }
         ensures count { vec_len self.new.marks ≡ vec_len self.old.marks }
         ensures reached { OnOk result ((s : ℕ) → is_listed (site_numbers self.new.sites.items) s
             ≡ is_reached graph.now (site_numbers self.old.sites.items) radius s) }

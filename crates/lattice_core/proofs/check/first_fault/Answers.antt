@@ -1,9 +1,8 @@
-use Rattle.std.proofs.Common.{◌≡◌, ◌<◌, ◌∙◌, ℕ, true, false, is_some, length, sym, ap, arith, List}
+use Rattle.std.proofs.Common.{◌≡◌, ◌<◌, ◌∙◌, is_some, length, sym, ap, arith, List}
 use Rattle.std.proofs.lemmas.List.{length-map}
 use Rattle.std.specs.declared.vec.Vec.{Vec}
 use Rattle.std.specs.declared.alloc.Global.{Global}
 use Rattle.kmc_base.specs.declared.ids.SiteId.{SiteId}
-use Rattle.lattice_core.specs.Fault.{site_fault}
 use Rattle.lattice_core.specs.SiteList.{site_numbers, number_lists}
 use Rattle.lattice_core.proofs.Faults.{fault_here, fault_later, fault_none}
 use Rattle.lattice_core.proofs.check.first_fault.Goals as goal

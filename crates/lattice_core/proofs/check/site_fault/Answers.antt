@@ -1,12 +1,10 @@
-use Rattle.std.proofs.Common.{◌≡◌, ◌<◌, ◌∙◌, ℕ, Bool, true, false, ltb, length, sym, ap, arith, refl, None, Some}
+use Rattle.std.proofs.Common.{◌≡◌, ◌∙◌, true, false, sym, ap, None, Some}
 use Rattle.std.proofs.lemmas.Bool.{lt-ltb, le-ltb}
 use Rattle.std.specs.Option.{option_map}
 use Rattle.lattice_core.specs.declared.fault.GraphFault.TheVariants.{OneSided}
-use Rattle.lattice_core.specs.declared.graph.TheConstants.{MAX_NEIGHBOURS}
-use Rattle.lattice_core.specs.Fault.{has_bad_site, has_itself, has_too_many, one_sided, site_fault}
-use Rattle.lattice_core.specs.SiteList.{site_numbers, number_lists, is_listed, list_of}
+use Rattle.lattice_core.specs.Fault.{has_bad_site, has_itself, one_sided}
+use Rattle.lattice_core.specs.SiteList.{number_lists}
 use Rattle.lattice_core.proofs.Faults.{fault-bad_site, fault-itself, fault-too_many, fault-one_sided}
-use Rattle.lattice_core.proofs.Merging.{All-below}
 use Rattle.lattice_core.proofs.Tests.{has_bad_site-is, has_itself-is, has_too_many-is, one_sided-is}
 use Rattle.lattice_core.proofs.check.site_fault.Goals as goal
 use Rattle.lattice_core.proofs.check.site_fault.Goals.{Then-has_bad_site, Else-has_bad_site, Then-has_site, Else-has_site}

@@ -1,6 +1,5 @@
 use Rattle.std.proofs.Common.{◌∙◌}
 use Rattle.lattice_core.proofs.Searching.{is_listed-from_search}
-use Rattle.lattice_core.proofs.Rising.{same_rising}
 use Rattle.lattice_core.proofs.site_list.has_site.Goals as goal
 
 pub returns : goal.returns

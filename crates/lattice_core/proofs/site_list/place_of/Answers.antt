@@ -3,7 +3,6 @@ use Rattle.std.proofs.lemmas.Iterator.{YieldsList-from_slice}
 use Rattle.std.proofs.lemmas.Iterator.Search.{position_from_yields_List}
 use Rattle.kmc_base.specs.declared.ids.SiteId.{SiteId}
 use Rattle.lattice_core.proofs.Numbers.{position-numbers}
-use Rattle.lattice_core.proofs.Places.{position-slice_get}
 use Rattle.lattice_core.proofs.site_list.place_of.Goals as goal
 
 pub returns : goal.returns

@@ -1,4 +1,4 @@
-use Rattle.std.proofs.Common.{◌≡◌, ◌∙◌, ap, slice_get, sym}
+use Rattle.std.proofs.Common.{◌∙◌, ap, slice_get}
 use Rattle.std.specs.List.Sorted.{IsStrictlyIncreasing}
 use Rattle.lattice_core.specs.Lattice.{neighbours_of}
 use Rattle.lattice_core.proofs.Places.{position-site}

@@ -1,9 +1,8 @@
-use Rattle.std.proofs.Common.{◌≤◌, ap, arith, length}
+use Rattle.std.proofs.Common.{◌≤◌, arith, length}
 use Rattle.std.proofs.lemmas.List.{length-map}
 use Rattle.kmc_base.specs.declared.ids.SiteId.{SiteId}
 use Rattle.lattice_core.specs.declared.graph.TheConstants.{MAX_NEIGHBOURS}
 use Rattle.lattice_core.specs.SiteList.{site_numbers}
-use Rattle.lattice_core.proofs.Sound.{first_fault-same}
 use Rattle.lattice_core.proofs.graph.Graph.neighbours.Goals as goal
 
 pub returns-clause-rising : goal.returns-clause-rising

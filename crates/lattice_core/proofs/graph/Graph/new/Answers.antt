@@ -1,11 +1,11 @@
-use Rattle.std.proofs.Common.{◌≡◌, ◌≤◌, ◌∙◌, ℕ, List, length, map, Some, None, subst, sym, ap, arith}
+use Rattle.std.proofs.Common.{◌≡◌, ◌∙◌, ℕ, List, length, map, subst, sym, ap, arith}
 use Rattle.std.specs.Vec.{with_items}
 use Rattle.std.proofs.lemmas.List.{with_items_is, length-map}
 use Rattle.std.specs.declared.vec.Vec.{Vec}
 use Rattle.std.specs.declared.alloc.Global.{Global}
 use Rattle.kmc_base.specs.declared.ids.SiteId.{SiteId}
-use Rattle.lattice_core.specs.Fault.{first_fault, lattice_from}
-use Rattle.lattice_core.specs.Lattice.{IsLattice, Lattice}
+use Rattle.lattice_core.specs.Fault.{first_fault}
+use Rattle.lattice_core.specs.Lattice.{Lattice}
 use Rattle.lattice_core.specs.SiteList.{site_numbers, number_lists, merged, AreMerged}
 use Rattle.lattice_core.proofs.Sound.{first_fault-same, lattice-from_sound, lists-merged}
 use Rattle.lattice_core.proofs.graph.Graph.new.Goals as goal

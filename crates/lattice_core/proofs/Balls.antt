@@ -1,0 +1,25 @@
+-- A rising list of what is reached is the ball.
+use Rattle.std.proofs.Common.{◌≡◌, ℕ, ◌<◌, true, ◌&&◌, ltb, List, All, sym, ◌∙◌, ap}
+use Rattle.std.specs.List.Sorted.{IsStrictlyIncreasing}
+use Rattle.lattice_core.specs.Ball.{ball, is_reached}
+use Rattle.lattice_core.specs.Lattice.{Lattice, site_count}
+use Rattle.lattice_core.specs.SiteList.{is_listed}
+use Rattle.lattice_core.proofs.Members.{same_answers}
+use Rattle.lattice_core.proofs.Merging.{rising_is_filter, listed-below}
+use Rattle.lattice_core.proofs.Walks.{Reached-from_test, test-from_Reached}
+
+pub ball-is : (lattice : Lattice) (centres : List ℕ) (radius : ℕ) (xs sorted : List ℕ) → All (λ s. s < site_count lattice) xs → IsStrictlyIncreasing sorted → ((s : ℕ) → is_listed sorted s ≡ is_listed xs s) → ((s : ℕ) → is_listed xs s ≡ is_reached lattice centres radius s) → sorted ≡ ball lattice centres radius
+unfolding ball
+ball-is lattice centres radius xs sorted below rising same found =
+    let n = site_count lattice in
+    rising_is_filter (is_reached lattice centres radius) n sorted rising (λ s. same s ∙ listed-below n xs s below ∙ ap (λ b. ltb s n && b) (found s))
+
+-- what is reached from the same starts is the same
+reached-from : (lattice : Lattice) (start centres : List ℕ) (k : ℕ) → ((s : ℕ) → is_listed start s ≡ is_listed centres s) → (s : ℕ) → is_reached lattice start k s ≡ true → is_reached lattice centres k s ≡ true
+reached-from lattice start centres k same s h =
+    let r = Reached-from_test lattice start k s h in
+    test-from_Reached lattice centres k s (record { from = r.from; steps = r.steps; starts = sym (same r.from) ∙ r.starts; within = r.within; walk = r.walk })
+
+pub is_reached-same : (lattice : Lattice) (start centres : List ℕ) (k : ℕ) → ((s : ℕ) → is_listed start s ≡ is_listed centres s) → (s : ℕ) → is_reached lattice start k s ≡ is_reached lattice centres k s
+is_reached-same lattice start centres k same s =
+    same_answers _ _ (reached-from lattice start centres k same s) (reached-from lattice centres start k (λ t. sym (same t)) s)
