@@ -55,8 +55,10 @@ fault_none lists i past = at_drop_all (fault_among lists) (range_with_len 0 (len
 pub site_fault-none : (lists : List (List ℕ)) (sites : List ℕ) (s : ℕ) → fault_among lists sites ≡ None → is_listed sites s ≡ true → site_fault lists s ≡ None
 site_fault-none lists [] s none listed = absurd (false≢true listed)
 site_fault-none lists (x ∷ xs) s none listed =
-    elim (cases_Bool (is_some (site_fault lists x)))
-    [ inl passed ↦ absurd (both_ways (is_some (site_fault lists x)) (ap is_some (sym (cond-true _ _ _ passed) ∙ none)) passed)
-    | inr failed ↦ elim (or_cases (eqb x s) (is_listed xs s) listed)
-      [ inl e ↦ subst (λ z. site_fault lists z ≡ None) (eqb-true x s e) (none_from_is_some _ failed)
-      | inr later ↦ site_fault-none lists xs s (sym (cond-false _ _ _ failed) ∙ none) later ] ]
+    elim (cases_Bool (is_some (site_fault lists x))) [
+      | inl passed ↦ absurd (both_ways (is_some (site_fault lists x)) (ap is_some (sym (cond-true _ _ _ passed) ∙ none)) passed)
+      | inr failed ↦ elim (or_cases (eqb x s) (is_listed xs s) listed) [
+        | inl e ↦ subst (λ z. site_fault lists z ≡ None) (eqb-true x s e) (none_from_is_some _ failed)
+        | inr later ↦ site_fault-none lists xs s (sym (cond-false _ _ _ failed) ∙ none) later
+      ]
+    ]

@@ -10,5 +10,5 @@ pub mod Searching
 pub mod Sorting
 pub mod Sound
 pub mod Steps
-pub mod Tests
+pub mod SiteTests
 pub mod Walks

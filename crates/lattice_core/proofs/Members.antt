@@ -47,9 +47,10 @@ pub listed_split : (xs : List ℕ) (first x : ℕ) → is_listed xs x ≡ true �
 listed_split xs first x listed =
     let c = Contains-from_listed xs x listed in
     let at : get_or xs c.0 0 ≡ x = get_or_default xs c.0 0 x c.1 ∙ c.2 in
-    elim (cases_lt c.0 first)
-    [ inl low ↦ inl (c.0, low, c.1, at)
-    | inr high ↦ inr (listed-from_Contains (drop first xs) x (c.0 - first, omega (arith, length-drop first xs), get_or-drop first xs (c.0 - first) x ∙ (let e : first + (c.0 - first) ≡ c.0 = omega arith in rw e c.2))) ]
+    elim (cases_lt c.0 first) [
+      | inl low ↦ inl (c.0, low, c.1, at)
+      | inr high ↦ inr (listed-from_Contains (drop first xs) x (c.0 - first, omega (arith, length-drop first xs), get_or-drop first xs (c.0 - first) x ∙ (let e : first + (c.0 - first) ≡ c.0 = omega arith in rw e c.2)))
+    ]
 
 -- what stands from a place on is named
 pub listed-from_drop : (xs : List ℕ) (first x : ℕ) → is_listed (drop first xs) x ≡ true → is_listed xs x ≡ true

@@ -14,10 +14,11 @@ use Rattle.std.proofs.lemmas.Option.{slice_get-get_or, slice_get_within, get_or_
 -- there is a place exactly where some number passes
 pub is_some-position : (p : ℕ → Bool) (xs : List ℕ) → is_some (position p xs) ≡ list_any p xs
 is_some-position p xs =
-    elim (cases_Bool (ltb (position_or_len p xs) (length xs)))
-    [ inl t ↦ let within = ltb-true _ _ t in rw t (sym (list_any_at p xs _ 0 within (passes_at_first p xs 0 within)))
-    | inr f ↦ let past = ltb-false _ _ f in
-              rw f (sym (list_any_none p xs (λ k d low. let before : k < position_or_len p xs = omega arith in fails_before_first p xs k d before))) ]
+    elim (cases_Bool (ltb (position_or_len p xs) (length xs))) [
+      | inl t ↦ let within = ltb-true _ _ t in rw t (sym (list_any_at p xs _ 0 within (passes_at_first p xs 0 within)))
+      | inr f ↦ let past = ltb-false _ _ f in
+          rw f (sym (list_any_none p xs (λ k d low. let before : k < position_or_len p xs = omega arith in fails_before_first p xs k d before)))
+    ]
 
 -- the number at the place of a number is that number
 pub slice_get-position : (xs : List ℕ) (t i : ℕ) → position (λ u. eqb u t) xs ≡ Some i → slice_get xs i ≡ Some t

@@ -28,11 +28,12 @@ first_once x xs up = false_from_ne_true _ (λ h. let k : x < x = first_below x x
 -- what names the same with an equal first names the same after it
 same_rest : (x : ℕ) (xs ys : List ℕ) → IsStrictlySortedBy nat_cmp (x ∷ xs) → IsStrictlySortedBy nat_cmp (x ∷ ys) → ((s : ℕ) → is_listed (x ∷ xs) s ≡ is_listed (x ∷ ys) s) → (s : ℕ) → is_listed xs s ≡ is_listed ys s
 same_rest x xs ys up down same s =
-    elim (cases_eq x s)
-    [ inl e ↦ subst (λ t. is_listed xs t ≡ is_listed ys t) e (first_once x xs up ∙ sym (first_once x ys down))
-    | inr n ↦ let e : (eqb x s || is_listed xs s) ≡ (eqb x s || is_listed ys s) = same s in
-              let f : eqb x s ≡ false = ne_eqb x s n in
-              rw f at e ]
+    elim (cases_eq x s) [
+      | inl e ↦ subst (λ t. is_listed xs t ≡ is_listed ys t) e (first_once x xs up ∙ sym (first_once x ys down))
+      | inr n ↦ let e : (eqb x s || is_listed xs s) ≡ (eqb x s || is_listed ys s) = same s in
+          let f : eqb x s ≡ false = ne_eqb x s n in
+          rw f at e
+    ]
 
 -- the first of the one is not below the first of the other
 not_below : (x y : ℕ) (xs ys : List ℕ) → IsStrictlySortedBy nat_cmp (y ∷ ys) → ((s : ℕ) → is_listed (x ∷ xs) s ≡ is_listed (y ∷ ys) s) → y ≤ x
@@ -57,11 +58,13 @@ same_rising (x ∷ xs) (y ∷ ys) up down same =
 -- one more element of a filter
 filter_step : (p : ℕ → Bool) (x : ℕ) (xs kept : List ℕ) (s : ℕ) → is_listed kept s ≡ (is_listed xs s && p s) → is_listed (cond (p x) (x ∷ kept) kept) s ≡ ((eqb x s || is_listed xs s) && p s)
 filter_step p x xs kept s ih =
-    elim (cases_eq x s)
-    [ inl e ↦ elim (cases_Bool (p x))
-      [ inl t ↦ let ps : p s ≡ true = subst (λ z. p z ≡ true) e t in let f = eq-eqb x s e in rw (t, ps, f) refl
-      | inr u ↦ let ps : p s ≡ false = subst (λ z. p z ≡ false) e u in rw (u, ps) (ih ∙ and_right _ _ ps ∙ sym (and_right _ _ refl)) ]
-    | inr n ↦ let f = ne_eqb x s n in elim (cases_Bool (p x)) [ inl t ↦ rw (t, f) ih | inr u ↦ rw (u, f) ih ] ]
+    elim (cases_eq x s) [
+      | inl e ↦ elim (cases_Bool (p x)) [
+        | inl t ↦ let ps : p s ≡ true = subst (λ z. p z ≡ true) e t in let f = eq-eqb x s e in rw (t, ps, f) refl
+        | inr u ↦ let ps : p s ≡ false = subst (λ z. p z ≡ false) e u in rw (u, ps) (ih ∙ and_right _ _ ps ∙ sym (and_right _ _ refl))
+      ]
+      | inr n ↦ let f = ne_eqb x s n in elim (cases_Bool (p x)) [ inl t ↦ rw (t, f) ih | inr u ↦ rw (u, f) ih ]
+    ]
 
 -- what a filter of a list names
 pub is_listed-filter : (p : ℕ → Bool) (xs : List ℕ) (s : ℕ) → is_listed (filter p xs) s ≡ (is_listed xs s && p s)

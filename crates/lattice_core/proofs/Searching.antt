@@ -32,9 +32,10 @@ is_listed-from_search xs x (Ok i) rising inside found =
 is_listed-from_search xs x (Err i) rising inside none =
     let parts = none (searchable_from_sorted nat_cmp_total (λ (s : SiteId). s.0) xs x (sorted_sites xs rising)) in
     sym (false_from_ne_true _ (λ h.
-      let c = Contains-from_listed _ x h in
-      let fits : c.0 < length xs = omega (arith, length-map xs (λ (s : SiteId). s.0), c.1) in
-      let at : (get_or xs c.0 (record { 0 = x })).0 ≡ x = sym (number_at xs c.0 x fits) ∙ c.2 in
-      elim (cases_lt c.0 i)
-      [ inl low ↦ let less : (get_or xs c.0 (record { 0 = x })).0 < x = ranked _ x Less (sym (parts.0 c.0 (record { 0 = x }) (omega arith) low)) in absurd (omega arith)
-      | inr high ↦ let more : x < (get_or xs c.0 (record { 0 = x })).0 = ranked _ x Greater (sym (parts.1 c.0 (record { 0 = x }) high fits)) in absurd (omega arith) ]))
+    let c = Contains-from_listed _ x h in
+    let fits : c.0 < length xs = omega (arith, length-map xs (λ (s : SiteId). s.0), c.1) in
+    let at : (get_or xs c.0 (record { 0 = x })).0 ≡ x = sym (number_at xs c.0 x fits) ∙ c.2 in
+    elim (cases_lt c.0 i) [
+      | inl low ↦ let less : (get_or xs c.0 (record { 0 = x })).0 < x = ranked _ x Less (sym (parts.0 c.0 (record { 0 = x }) (omega arith) low)) in absurd (omega arith)
+      | inr high ↦ let more : x < (get_or xs c.0 (record { 0 = x })).0 = ranked _ x Greater (sym (parts.1 c.0 (record { 0 = x }) high fits)) in absurd (omega arith)
+    ]))

@@ -43,5 +43,5 @@ is_listed-from_sort before sorted kept s moved is =
     let numbers_moved = IsPermutation-map (λ (x : SiteId). x.0) before sorted moved in
     let e : site_numbers kept ≡ dedup eqb (site_numbers sorted) = ap site_numbers is ∙ numbers-dedup sorted in
     rw e (is_listed-same (dedup eqb (site_numbers sorted)) (site_numbers before) s
-      (λ c. Contains-permutation _ _ s (IsPermutation-sym _ _ numbers_moved) (Contains-from_dedup eqb _ s c))
-      (λ c. Contains-dedup_nat _ s (Contains-permutation _ _ s numbers_moved c)))
+    (λ c. Contains-permutation _ _ s (IsPermutation-sym _ _ numbers_moved) (Contains-from_dedup eqb _ s c))
+    (λ c. Contains-dedup_nat _ s (Contains-permutation _ _ s numbers_moved c)))

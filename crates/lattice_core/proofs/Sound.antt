@@ -68,13 +68,16 @@ none_from_map f (Some x) h = absurd (none-some (f x) (sym h))
 -- the three tests fail, and no neighbour is one-sided
 tests-none : (lists : List (List ℕ)) (s : ℕ) → site_fault lists s ≡ None → (has_bad_site lists s ≡ false) × (has_itself lists s ≡ false) × (has_too_many lists s ≡ false) × (one_sided lists s ≡ None)
 tests-none lists s none =
-    elim (cases_Bool (has_bad_site lists s))
-    [ inl a ↦ absurd (none-some _ (sym none ∙ fault-bad_site lists s a))
-    | inr a ↦ elim (cases_Bool (has_itself lists s))
-      [ inl b ↦ absurd (none-some _ (sym none ∙ fault-itself lists s a b))
-      | inr b ↦ elim (cases_Bool (has_too_many lists s))
-        [ inl d ↦ absurd (none-some _ (sym none ∙ fault-too_many lists s a b d))
-        | inr d ↦ (a, b, d, none_from_map _ (one_sided lists s) (sym (fault-one_sided lists s a b d) ∙ none)) ] ] ]
+    elim (cases_Bool (has_bad_site lists s)) [
+      | inl a ↦ absurd (none-some _ (sym none ∙ fault-bad_site lists s a))
+      | inr a ↦ elim (cases_Bool (has_itself lists s)) [
+        | inl b ↦ absurd (none-some _ (sym none ∙ fault-itself lists s a b))
+        | inr b ↦ elim (cases_Bool (has_too_many lists s)) [
+          | inl d ↦ absurd (none-some _ (sym none ∙ fault-too_many lists s a b d))
+          | inr d ↦ (a, b, d, none_from_map _ (one_sided lists s) (sym (fault-one_sided lists s a b d) ∙ none))
+        ]
+      ]
+    ]
 
 module _ (lists : List (List ℕ)) (rising : (s : ℕ) → IsStrictlyIncreasing (list_of lists s)) where
   sound-from_none : (s : ℕ) → site_fault lists s ≡ None → Sound lists s
@@ -92,15 +95,16 @@ module _ (lists : List (List ℕ)) (rising : (s : ℕ) → IsStrictlyIncreasing 
   -- every site is sound where the lists have no fault, and past the last there is no list
   sound : first_fault lists ≡ None → (s : ℕ) → Sound lists s
   sound none s =
-      elim (cases_lt s (length lists))
-      [ inl within ↦ sound-from_none s (site_fault-none lists (range_with_len 0 (length lists)) s none (is_listed-range 0 (length lists) s ∙ and_from _ _ (le-leb 0 s (omega arith)) (lt-ltb s (0 + length lists) (omega arith))))
-      | inr past ↦ let e : list_of lists s ≡ [] = get_or_past lists s [] past in
-                  record {
-                    sites = rw e (All-nil (λ t. t < length lists));
-                    few = rw e (omega arith);
-                    not_own = rw e refl;
-                    two_sided = λ t h. absurd (false≢true (rw e at h));
-                  } ]
+      elim (cases_lt s (length lists)) [
+        | inl within ↦ sound-from_none s (site_fault-none lists (range_with_len 0 (length lists)) s none (is_listed-range 0 (length lists) s ∙ and_from _ _ (le-leb 0 s (omega arith)) (lt-ltb s (0 + length lists) (omega arith))))
+        | inr past ↦ let e : list_of lists s ≡ [] = get_or_past lists s [] past in
+            record {
+              sites = rw e (All-nil (λ t. t < length lists));
+              few = rw e (omega arith);
+              not_own = rw e refl;
+              two_sided = λ t h. absurd (false≢true (rw e at h));
+            }
+      ]
 
   pub lattice-from_sound : (types : List ℕ) → length types ≡ length lists → 1 ≤ length types → length types ≤ MAX_SITES → first_fault lists ≡ None → IsLattice (record { types = types; neighbours = lists })
   lattice-from_sound types lengths some limit none = record {
@@ -120,8 +124,8 @@ lists-merged before after is none =
     let lengths = length-map before (merged (length before)) in
     same_lists after (map (merged (length before)) before) (omega (arith, lengths, is.same_length))
     (λ k d within.
-      let within' : k < length before = omega (arith, is.same_length) in
-      let sites = (sound after is.rising none k).sites in
-      let sites' = rw is.same_length at sites in
-      let merged_k = merged-is (length before) (list_of before k) (list_of after k) sites' (is.rising k) (is.same_sites k) in
-      get_or_default after k d [] within ∙ merged_k ∙ sym (get_or-map (merged (length before)) before k [] d within'))
+    let within' : k < length before = omega (arith, is.same_length) in
+    let sites = (sound after is.rising none k).sites in
+    let sites' = rw is.same_length at sites in
+    let merged_k = merged-is (length before) (list_of before k) (list_of after k) sites' (is.rising k) (is.same_sites k) in
+    get_or_default after k d [] within ∙ merged_k ∙ sym (get_or-map (merged (length before)) before k [] d within'))

@@ -23,11 +23,13 @@ find_none p xs i past = at_drop_all (find p) xs i past
 pub fails-from_none : (p : ℕ → Bool) (xs : List ℕ) (t : ℕ) → find p xs ≡ None → is_listed xs t ≡ true → p t ≡ false
 fails-from_none p [] t none listed = absurd (false≢true listed)
 fails-from_none p (x ∷ xs) t none listed =
-    elim (cases_Bool (p x))
-    [ inl passed ↦ absurd (none-some x (sym none ∙ cond-true _ _ _ passed))
-    | inr failed ↦ elim (or_cases (eqb x t) (is_listed xs t) listed)
-      [ inl e ↦ subst (λ z. p z ≡ false) (eqb-true x t e) failed
-      | inr later ↦ fails-from_none p xs t (sym (cond-false _ _ _ failed) ∙ none) later ] ]
+    elim (cases_Bool (p x)) [
+      | inl passed ↦ absurd (none-some x (sym none ∙ cond-true _ _ _ passed))
+      | inr failed ↦ elim (or_cases (eqb x t) (is_listed xs t) listed) [
+        | inl e ↦ subst (λ z. p z ≡ false) (eqb-true x t e) failed
+        | inr later ↦ fails-from_none p xs t (sym (cond-false _ _ _ failed) ∙ none) later
+      ]
+    ]
 
 -- two tests that agree find the same
 pub find-agree : (p q : ℕ → Bool) → ((t : ℕ) → p t ≡ q t) → (xs : List ℕ) → find p xs ≡ find q xs

@@ -60,10 +60,10 @@ reached_start lattice start s =
     same_answers _ _
     (λ h. test-from_Reached lattice start 0 s (record { from = s; steps = 0; starts = h; within = omega arith; walk = walk_none lattice s }))
     (λ h.
-      let r = Reached-from_test lattice start 0 s h in
-      let none : r.steps ≡ 0 = omega (arith, r.within) in
-      let e : r.from ≡ s = walk_start lattice r.from s (rw none at r.walk) in
-      subst (λ x. is_listed start x ≡ true) e r.starts)
+    let r = Reached-from_test lattice start 0 s h in
+    let none : r.steps ≡ 0 = omega (arith, r.within) in
+    let e : r.from ≡ s = walk_start lattice r.from s (rw none at r.walk) in
+    subst (λ x. is_listed start x ≡ true) e r.starts)
 
 module _ (lattice : Lattice) (is : IsLattice lattice) (start xs : List ℕ) (k first : ℕ) (found : (s : ℕ) → is_listed xs s ≡ is_reached lattice start k s) (closed : IsClosed lattice xs first) where
   -- what was found is reached
@@ -79,34 +79,38 @@ module _ (lattice : Lattice) (is : IsLattice lattice) (start xs : List ℕ) (k f
       let m = walk_last lattice r.from s k (rw e at r.walk) in
       let before = listed m.0 (record { from = r.from; steps = k; starts = r.starts; within = omega arith; walk = m.2 }) in
       let next = is.symmetric s m.0 m.1 in
-      elim (listed_split xs first m.0 before)
-      [ inl p ↦ adds s ∙ or_left _ _ (closed p.0 s p.1 p.2 (rw p.3 next))
-      | inr later ↦ adds s ∙ or_right _ _ (any-from_listed (λ f. is_listed (neighbours_of lattice f) s) (drop first xs) m.0 later next) ]
+      elim (listed_split xs first m.0 before) [
+        | inl p ↦ adds s ∙ or_left _ _ (closed p.0 s p.1 p.2 (rw p.3 next))
+        | inr later ↦ adds s ∙ or_right _ _ (any-from_listed (λ f. is_listed (neighbours_of lattice f) s) (drop first xs) m.0 later next)
+      ]
 
   -- one step on
   pub reached_more : (ys : List ℕ) → Adds xs ys (λ s. list_any (λ f. is_listed (neighbours_of lattice f) s) (drop first xs)) → (s : ℕ) → is_listed ys s ≡ is_reached lattice start (k + 1) s
   reached_more ys adds s =
       same_answers _ _
-      (λ h. elim (or_cases _ _ (sym (adds s) ∙ h))
-        [ inl old ↦ let r = reached s old in
-                    test-from_Reached lattice start (k + 1) s (record { from = r.from; steps = r.steps; starts = r.starts; within = omega (arith, r.within); walk = r.walk })
+      (λ h. elim (or_cases _ _ (sym (adds s) ∙ h)) [
+        | inl old ↦ let r = reached s old in
+            test-from_Reached lattice start (k + 1) s (record { from = r.from; steps = r.steps; starts = r.starts; within = omega (arith, r.within); walk = r.walk })
         | inr new ↦ let f = listed-from_any _ (drop first xs) new in
-                    let r = reached f.0 (listed-from_drop xs first f.0 f.1) in
-                    test-from_Reached lattice start (k + 1) s (record { from = r.from; steps = suc r.steps; starts = r.starts; within = omega (arith, r.within); walk = walk_more lattice r.from s f.0 r.steps r.walk (is.symmetric f.0 s f.2) }) ])
+            let r = reached f.0 (listed-from_drop xs first f.0 f.1) in
+            test-from_Reached lattice start (k + 1) s (record { from = r.from; steps = suc r.steps; starts = r.starts; within = omega (arith, r.within); walk = walk_more lattice r.from s f.0 r.steps r.walk (is.symmetric f.0 s f.2) })
+      ])
       (λ h.
-        let r = Reached-from_test lattice start (k + 1) s h in
-        elim (cases_lt r.steps (k + 1))
-        [ inl low ↦ adds s ∙ or_left _ _ (listed s (record { from = r.from; steps = r.steps; starts = r.starts; within = omega arith; walk = r.walk }))
-        | inr high ↦ last_step ys adds s r (omega (arith, r.within)) ])
+      let r = Reached-from_test lattice start (k + 1) s h in
+      elim (cases_lt r.steps (k + 1)) [
+        | inl low ↦ adds s ∙ or_left _ _ (listed s (record { from = r.from; steps = r.steps; starts = r.starts; within = omega arith; walk = r.walk }))
+        | inr high ↦ last_step ys adds s r (omega (arith, r.within))
+      ])
 
   -- what is named stays closed
   pub closed_more : (ys : List ℕ) → BeginsWith ys xs → Adds xs ys (λ s. list_any (λ f. is_listed (neighbours_of lattice f) s) (drop first xs)) → IsClosed lattice ys (length xs)
   closed_more ys front adds i t low within h =
       let e : get_or ys i 0 ≡ get_or xs i 0 = sym (get_or-take (length xs) ys i 0 low) ∙ ap (λ l. get_or l i 0) front in
       let next = rw e at h in
-      elim (cases_lt i first)
-      [ inl early ↦ adds t ∙ or_left _ _ (closed i t early low next)
-      | inr late ↦ adds t ∙ or_right _ _ (any-from_listed (λ f. is_listed (neighbours_of lattice f) t) (drop first xs) (get_or xs i 0) (listed_later xs first i late low) next) ]
+      elim (cases_lt i first) [
+        | inl early ↦ adds t ∙ or_left _ _ (closed i t early low next)
+        | inr late ↦ adds t ∙ or_right _ _ (any-from_listed (λ f. is_listed (neighbours_of lattice f) t) (drop first xs) (get_or xs i 0) (listed_later xs first i late low) next)
+      ]
 
   -- where every place was closed, each walk from a start stays in the list
   along : length xs ≤ first → (c : ℕ) → is_listed start c ≡ true → (n s : ℕ) → has_walk lattice c s n ≡ true → is_listed xs s ≡ true
@@ -121,11 +125,11 @@ module _ (lattice : Lattice) (is : IsLattice lattice) (start xs : List ℕ) (k f
   reached_all radius far all s =
       same_answers _ _
       (λ h.
-        let r = reached s h in
-        test-from_Reached lattice start radius s (record { from = r.from; steps = r.steps; starts = r.starts; within = omega (arith, r.within); walk = r.walk }))
+      let r = reached s h in
+      test-from_Reached lattice start radius s (record { from = r.from; steps = r.steps; starts = r.starts; within = omega (arith, r.within); walk = r.walk }))
       (λ h.
-        let r = Reached-from_test lattice start radius s h in
-        along all r.from r.starts r.steps s r.walk)
+      let r = Reached-from_test lattice start radius s h in
+      along all r.from r.starts r.steps s r.walk)
 
 -- no walk is shorter than the first one that is found
 least_of : (lattice : Lattice) (a b k : ℕ) → ((m : ℕ) → m < k → has_walk lattice a b m ≡ false) → (m : ℕ) → has_walk lattice a b m ≡ true → k ≤ m
@@ -139,19 +143,22 @@ no_more lattice a b k none last m h =
 distance_below : (lattice : Lattice) (a b k : ℕ) → ((n : ℕ) × IsDistance lattice a b n × (n < k)) ⊎ ((m : ℕ) → m < k → has_walk lattice a b m ≡ false)
 distance_below lattice a b zero = inr (λ m h. absurd (omega arith))
 distance_below lattice a b (suc k) =
-    elim (distance_below lattice a b k)
-    [ inl d ↦ inl (d.0, d.1, omega (arith, d.2))
-    | inr none ↦ elim (cases_Bool (has_walk lattice a b k))
-      [ inl walk ↦ inl (k, record { walk = walk; least = λ m h. least_of lattice a b k none m h }, omega arith)
-      | inr no_walk ↦ inr (λ m h. no_more lattice a b k none no_walk m h) ] ]
+    elim (distance_below lattice a b k) [
+      | inl d ↦ inl (d.0, d.1, omega (arith, d.2))
+      | inr none ↦ elim (cases_Bool (has_walk lattice a b k)) [
+        | inl walk ↦ inl (k, record { walk = walk; least = λ m h. least_of lattice a b k none m h }, omega arith)
+        | inr no_walk ↦ inr (λ m h. no_more lattice a b k none no_walk m h)
+      ]
+    ]
 
 -- a site is near exactly where it is reached
 pub near_reached : (lattice : Lattice) (centres : List ℕ) (radius s : ℕ) → is_reached lattice centres radius s ≡ true → IsNear lattice centres radius s
 near_reached lattice centres radius s h =
     let r = Reached-from_test lattice centres radius s h in
-    elim (distance_below lattice r.from s (suc r.steps))
-    [ inl d ↦ (r.from, d.0, Contains-from_listed centres r.from r.starts, d.1, omega (arith, d.2, r.within))
-    | inr none ↦ absurd (both_ways _ (none r.steps (omega arith)) r.walk) ]
+    elim (distance_below lattice r.from s (suc r.steps)) [
+      | inl d ↦ (r.from, d.0, Contains-from_listed centres r.from r.starts, d.1, omega (arith, d.2, r.within))
+      | inr none ↦ absurd (both_ways _ (none r.steps (omega arith)) r.walk)
+    ]
 
 pub reached_near : (lattice : Lattice) (centres : List ℕ) (radius s : ℕ) → IsNear lattice centres radius s → is_reached lattice centres radius s ≡ true
 reached_near lattice centres radius s near =

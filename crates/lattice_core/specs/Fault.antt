@@ -35,9 +35,9 @@ site_fault lists s =
     if has_bad_site lists s
     then Some (BadSite s)
     else
-      (if has_itself lists s
-       then Some (SelfNeighbour s)
-       else (if has_too_many lists s then Some (TooMany s) else option_map (OneSided s) (one_sided lists s)))
+    (if has_itself lists s
+    then Some (SelfNeighbour s)
+    else (if has_too_many lists s then Some (TooMany s) else option_map (OneSided s) (one_sided lists s)))
 
 -- the fault of the first of some sites that has one
 abbrev pub fault_among : List (List ℕ) → List ℕ → Option GraphFault

@@ -4,11 +4,10 @@ ghost use Rattle.lattice_core.specs.Ball.{ball, is_reached, IsNear};
 ghost use Rattle.lattice_core.specs.Lattice.{site_count, neighbours_of, IsLattice};
 ghost use Rattle.lattice_core.specs.SiteList.{site_numbers, is_listed, Adds, BeginsWith};
 
-use kmc_base::{OutOfMemory, SiteId};
-use std::alloc::Global;
-
 use crate::graph::Graph;
 use crate::site_list::sort_sites;
+use kmc_base::{OutOfMemory, SiteId};
+use std::alloc::Global;
 
 /// The sites that a walk has come to, in the order in which it came to them.
 #[derive(Drop)]
@@ -101,7 +100,12 @@ impl Graph {
     /// The sites within a distance of the centres, in rising order, each once.
     ///
     /// Its work grows with the number of sites and the neighbours of the sites that it answers.
-    pub fn ball(&self, alloc: Global, centres: &[SiteId], radius: u32) -> Result<Vec<SiteId>, OutOfMemory>
+    pub fn ball(
+        &self,
+        alloc: Global,
+        centres: &[SiteId],
+        radius: u32,
+    ) -> Result<Vec<SiteId>, OutOfMemory>
         requires { All (λ s. s.0 < site_count self.now) centres.now }
         ensures ball { IfOk result (λ sites. site_numbers sites.items ≡ ball self.now (site_numbers centres.now) radius) }
         ensures near { IfOk result (λ sites. (s : ℕ) → Contains (site_numbers sites.items) s
@@ -110,7 +114,10 @@ impl Graph {
         let mut visited = Visited::none(alloc, self.len() as usize)?;
         visited.visit_all(centres)?;
         visited.visit_within(self, radius)?;
-        let Visited { marks: _, mut sites } = visited;
+        let Visited {
+            marks: _,
+            mut sites,
+        } = visited;
         sort_sites(&mut sites);
         Ok(sites)
     }

@@ -4,11 +4,10 @@ ghost use Rattle.std.specs.List.Sorted.{IsStrictlyIncreasing};
 ghost use Rattle.lattice_core.specs.Fault.{has_bad_site, site_fault, first_fault};
 ghost use Rattle.lattice_core.specs.SiteList.{site_numbers, number_lists, is_listed, list_of};
 
-use kmc_base::{MAX_SITES, SiteId};
-
 use crate::fault::GraphFault;
 use crate::graph::MAX_NEIGHBOURS;
 use crate::site_list::{has_site, list_at};
+use kmc_base::{MAX_SITES, SiteId};
 
 /// Whether a list has a number that is none of so many sites.
 fn has_bad_site(list: &[SiteId], count: usize) -> bool

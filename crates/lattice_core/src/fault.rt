@@ -1,3 +1,7 @@
+ghost use Rattle.std.specs.Prelude.{◌≡◌};
+ghost use Rattle.lattice_core.specs.declared.fault.GraphFault.TheVariants.{OutOfMemory};
+
+use std::alloc::{AllocError, AllocFailed};
 use std::error::Error;
 use std::fmt;
 
@@ -22,10 +26,29 @@ impl fmt::Display for GraphFault {
             GraphFault::BadSite(site) => write!(f, "site {site} lists a number that is no site"),
             GraphFault::SelfNeighbour(site) => write!(f, "site {site} is its own neighbour"),
             GraphFault::TooMany(site) => write!(f, "site {site} has too many neighbours"),
-            GraphFault::OneSided(site, other) => write!(f, "site {site} lists {other}, which does not list it"),
+            GraphFault::OneSided(site, other) => write!(
+                f,
+                "site {site} lists {other}, which does not list it"
+            ),
             GraphFault::OutOfMemory => f.write_str("out of memory"),
         }
     }
 }
 
 impl Error for GraphFault {}
+
+impl From<AllocError> for GraphFault {
+    ghost from_gives = { λ _ fault. fault ≡ OutOfMemory };
+
+    fn from(_error: AllocError) -> GraphFault {
+        GraphFault::OutOfMemory
+    }
+}
+
+impl<T: Drop> From<AllocFailed<T>> for GraphFault {
+    ghost from_gives = { λ _ fault. fault ≡ OutOfMemory };
+
+    fn from(_error: AllocFailed<T>) -> GraphFault {
+        GraphFault::OutOfMemory
+    }
+}

@@ -5,12 +5,11 @@ ghost use Rattle.lattice_core.specs.Fault.{first_fault, lattice_from};
 ghost use Rattle.lattice_core.specs.Lattice.{site_count, neighbours_of, is_neighbour, slot_in, site_in_slot, IsLattice};
 ghost use Rattle.lattice_core.specs.SiteList.{site_numbers, number_lists, AreMerged};
 
-use kmc_base::{MAX_SITES, SiteId};
-use std::marker::Model;
-
 use crate::check::first_fault;
 use crate::fault::GraphFault;
 use crate::site_list::{list_at, place_of, site_in, sort_sites};
+use kmc_base::{MAX_SITES, SiteId};
+use std::marker::Model;
 
 /// The greatest number of neighbours of a site.
 pub const MAX_NEIGHBOURS: usize = 32;

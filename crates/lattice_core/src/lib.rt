@@ -12,3 +12,6 @@ mod site_list;
 
 pub use fault::GraphFault;
 pub use graph::{Graph, MAX_NEIGHBOURS};
+
+#[cfg(test)]
+mod tests;

@@ -5,7 +5,7 @@ use Rattle.lattice_core.specs.declared.fault.GraphFault.TheVariants.{OneSided}
 use Rattle.lattice_core.specs.Fault.{has_bad_site, has_itself, one_sided}
 use Rattle.lattice_core.specs.SiteList.{number_lists}
 use Rattle.lattice_core.proofs.Faults.{fault-bad_site, fault-itself, fault-too_many, fault-one_sided}
-use Rattle.lattice_core.proofs.Tests.{has_bad_site-is, has_itself-is, has_too_many-is, one_sided-is}
+use Rattle.lattice_core.proofs.SiteTests.{has_bad_site-is, has_itself-is, has_too_many-is, one_sided-is}
 use Rattle.lattice_core.proofs.check.site_fault.Goals as goal
 use Rattle.lattice_core.proofs.check.site_fault.Goals.{Then-has_bad_site, Else-has_bad_site, Then-has_site, Else-has_site}
 

@@ -8,5 +8,5 @@ abbrev pub invariant-loop-i : goal.invariant-loop-i
 invariant-loop-i l = record {
   same_length : length l.lists ≡ length l.fn.lists;
   rising : (s : ℕ) → s < l.i → IsStrictlyIncreasing (list_of (number_lists l.lists) s);
-  same_sites : (s t : ℕ) → is_listed (list_of (number_lists l.lists) s) t ≡ is_listed (list_of (number_lists l.fn.lists) s) t
+  same_sites : (s t : ℕ) → is_listed (list_of (number_lists l.lists) s) t ≡ is_listed (list_of (number_lists l.fn.lists) s) t;
 }

@@ -17,6 +17,6 @@ loop-site-preserved c =
     record {
       count = c.in_ok-visit.ensures.count ∙ c.loop-site.invariant.count;
       adds = Adds-then _ _ _ (is_listed (take i ns)) (eqb (number_of c.args.sites.now i)) (is_listed (take (i + 1) ns))
-        c.loop-site.invariant.adds c.in_ok-visit.ensures.adds (λ s. is_listed-more ns i _ s is.0 is.1);
+          c.loop-site.invariant.adds c.in_ok-visit.ensures.adds (λ s. is_listed-more ns i _ s is.0 is.1);
       front = BeginsWith-trans _ _ _ c.loop-site.invariant.front c.in_ok-visit.ensures.front;
     }

@@ -44,8 +44,8 @@ loop-place-preserved c =
     record {
       count = c.in_ok-visit_all.ensures.count ∙ c.loop-place.invariant.count;
       adds = Adds-then _ _ _ (λ s. list_any (g s) (take (place - c.args.first) (drop c.args.first xs))) (is_listed (site_numbers c.neighbours.result.now)) _
-        c.loop-place.invariant.adds c.in_ok-visit_all.ensures.adds
-        (λ s. ap (λ l. list_any (g s) (take (place - c.args.first) (drop c.args.first xs)) || is_listed l s) c.neighbours.ensures.value
+          c.loop-place.invariant.adds c.in_ok-visit_all.ensures.adds
+          (λ s. ap (λ l. list_any (g s) (take (place - c.args.first) (drop c.args.first xs)) || is_listed l s) c.neighbours.ensures.value
           ∙ any_more (g s) xs c.args.first place c.index-site.result.now.0 c.loop-place.auto.place (early at) (was_number at));
       front = BeginsWith-trans _ _ _ c.loop-place.invariant.front c.in_ok-visit_all.ensures.front;
     }

@@ -9,6 +9,6 @@ abbrev pub invariant-loop-place : goal.invariant-loop-place
 invariant-loop-place l = record {
   count : vec_len l.self.marks ≡ vec_len l.fn.self.marks;
   adds : Adds (site_numbers l.fn.self.sites.items) (site_numbers l.self.sites.items)
-    (λ s. list_any (λ f. is_listed (neighbours_of l.graph f) s) (take (l.place - l.first) (drop l.first (site_numbers l.fn.self.sites.items))));
-  front : BeginsWith (site_numbers l.self.sites.items) (site_numbers l.fn.self.sites.items)
+      (λ s. list_any (λ f. is_listed (neighbours_of l.graph f) s) (take (l.place - l.first) (drop l.first (site_numbers l.fn.self.sites.items))));
+  front : BeginsWith (site_numbers l.self.sites.items) (site_numbers l.fn.self.sites.items);
 }

@@ -10,7 +10,7 @@ invariant-loop-steps l = record {
   not_past : l.steps ≤ l.radius;
   count : vec_len l.self.marks ≡ vec_len l.fn.self.marks;
   reached : (s : ℕ) → is_listed (site_numbers l.self.sites.items) s ≡ is_reached l.graph (site_numbers l.fn.self.sites.items) l.steps s;
-  closed : IsClosed l.graph (site_numbers l.self.sites.items) l.first
+  closed : IsClosed l.graph (site_numbers l.self.sites.items) l.first;
 }
 
 abbrev pub decreases-loop-steps : goal.decreases-loop-steps
