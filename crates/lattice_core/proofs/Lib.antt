@@ -1,14 +1,15 @@
 pub mod Adding
+pub mod Adsorbates
 pub mod Balls
 pub mod Faults
+pub mod Finding
 pub mod Members
 pub mod Merging
 pub mod Numbers
 pub mod Places
 pub mod Rising
 pub mod Searching
+pub mod SiteTests
 pub mod Sorting
 pub mod Sound
-pub mod Steps
-pub mod SiteTests
 pub mod Walks

@@ -18,7 +18,7 @@ use Rattle.lattice_core.proofs.Faults.{fault-bad_site, fault-itself, fault-too_m
 use Rattle.lattice_core.proofs.Members.{Contains-from_listed, listed-from_Contains, same_answers}
 use Rattle.lattice_core.proofs.Merging.{All-below, merged-is, merged-same}
 use Rattle.lattice_core.proofs.Rising.{is_listed-range}
-use Rattle.lattice_core.proofs.Steps.{find-agree, fails-from_none}
+use Rattle.lattice_core.proofs.Finding.{find-agree, fails-from_none}
 
 -- a test passes some number of both lists, or of neither
 list_any-same : (p : ℕ → Bool) (xs ys : List ℕ) → ((s : ℕ) → is_listed xs s ≡ is_listed ys s) → list_any p xs ≡ true → list_any p ys ≡ true

@@ -1,4 +1,5 @@
 pub mod Ball
+pub mod Config
 pub mod Fault
 pub mod Lattice
 pub mod SiteList

@@ -6,12 +6,18 @@
 
 mod ball;
 mod check;
+mod config;
 mod fault;
 mod graph;
 mod site_list;
+mod state;
+mod steps;
 
+pub use config::{Config, MAX_DENTATES};
 pub use fault::GraphFault;
 pub use graph::{Graph, MAX_NEIGHBOURS};
+pub use state::State;
+pub use steps::Steps;
 
 #[cfg(test)]
 mod tests;

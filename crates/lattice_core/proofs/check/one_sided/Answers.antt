@@ -1,6 +1,6 @@
 use Rattle.std.proofs.Common.{◌<◌, ◌∙◌, not, length, sym, arith, refl}
 use Rattle.lattice_core.specs.SiteList.{number_lists, is_listed, list_of}
-use Rattle.lattice_core.proofs.Steps.{find_site_here, find_site_later, All-number}
+use Rattle.lattice_core.proofs.Finding.{find_site_here, find_site_later, All-number}
 use Rattle.lattice_core.proofs.check.one_sided.Goals as goal
 
 pub list_at-requires : goal.list_at-requires

@@ -1,7 +1,7 @@
 use Rattle.std.proofs.Common.{◌<◌, ◌∙◌, vec_len, arith, eqb, take, ◌+◌}
 use Rattle.lattice_core.specs.SiteList.{site_numbers, is_listed}
 use Rattle.lattice_core.proofs.Adding.{Adds-then, is_listed-more, BeginsWith-trans}
-use Rattle.lattice_core.proofs.Steps.{All-number, number_of, number_of-is}
+use Rattle.lattice_core.proofs.Finding.{All-number, number_of, number_of-is}
 use Rattle.lattice_core.proofs.ball.Visited.visit_all.Goals as goal
 
 pub visit-requires : goal.visit-requires

@@ -5,6 +5,7 @@ use Rattle.std.proofs.lemmas.List.{at_drop_more, at_drop_all, length-map}
 use Rattle.std.proofs.lemmas.Option.{none-some}
 use Rattle.kmc_base.specs.declared.ids.SiteId.{SiteId}
 use Rattle.lattice_core.specs.SiteList.{site_numbers, is_listed}
+use Rattle.lattice_core.proofs.Members.{listed_at}
 use Rattle.lattice_core.proofs.Searching.{number_at}
 
 -- the first that is left passes
@@ -58,3 +59,9 @@ pub All-number : (P : ℕ → Type 0) (list : List SiteId) (i : ℕ) → i < len
 All-number P list i within all =
     let is = number_of-is list i within in
     subst P is.1 (all i 0 is.0)
+
+-- the number of the site at a place is listed
+pub listed_number : (list : List SiteId) (i : ℕ) → i < length list → is_listed (site_numbers list) (number_of list i) ≡ true
+listed_number list i within =
+    let is = number_of-is list i within in
+    subst (λ s. is_listed (site_numbers list) s ≡ true) is.1 (listed_at (site_numbers list) i is.0)

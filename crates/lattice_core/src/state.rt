@@ -1,0 +1,33 @@
+ghost use Rattle.std.specs.Prelude.{◌≡◌};
+ghost use Rattle.lattice_core.specs.Config.{class_of};
+
+use kmc_base::{SiteId, SpeciesId};
+
+/// The state of a site.
+#[derive(Clone, Copy, Debug, PartialEq, Eq, Hash)]
+pub enum State {
+    /// No adsorbate stands there.
+    Vacant,
+    /// A dentate of an adsorbate stands there.
+    Holds {
+        species: SpeciesId,
+        /// Which dentate of it, from 1.
+        dentate: u8,
+        /// The site of its dentate 1.
+        home: SiteId,
+    },
+}
+
+/// The class of a state.
+pub(crate) fn class_of(state: State) -> u32
+    ensures { result ≡ class_of state }
+{
+    match state {
+        State::Vacant => 0,
+        State::Holds {
+            species,
+            dentate,
+            home: _,
+        } => u32::from(species.0) * 8 + u32::from(dentate),
+    }
+}
