@@ -1,7 +1,7 @@
 -- What a configuration is after an adsorbate was put on it or taken off it, site by site, and that it stays well formed.
-use Rattle.std.proofs.Common.{◌≡◌, ◌≢◌, ℕ, zero, suc, ◌+◌, ◌-◌, ◌<◌, ◌≤◌, Bool, true, false, ◌||◌, cond, eqb, List, [], ◌∷◌, length, get_or, set, take, drop, map, replicate, All, AllPairs, slice_index, inl, inr, ◌⊎◌, refl, subst, sym, ◌∙◌, ap, arith}
+use Rattle.std.proofs.Common.{◌≡◌, ◌≢◌, ℕ, zero, suc, ◌+◌, ◌-◌, ◌<◌, ◌≤◌, Bool, true, false, ◌||◌, cond, eqb, List, [], ◌∷◌, length, get_or, set, drop, map, replicate, All, AllPairs, slice_index, inl, inr, refl, subst, sym, ◌∙◌, ap, arith}
 use Rattle.std.specs.List.{range_with_len}
-use Rattle.std.proofs.lemmas.Bool.{cond-true, cond-false, cases_eq, cases_lt, cases_Bool, or_parts, or_right, eq-eqb, ne_eqb, eqb-true, false≢true, both_ways, false_from_ne_true}
+use Rattle.std.proofs.lemmas.Bool.{cond-true, cond-false, cases_eq, cases_lt, cases_Bool, or_parts, or_right, eq-eqb, ne_eqb, false≢true, both_ways, false_from_ne_true}
 use Rattle.std.proofs.lemmas.List.{get_or-set_same, get_or-set_other, get_or_past, length-drop, get_or-drop, drop_more, drop_all}
 use Rattle.std.proofs.lemmas.List.Elements.{All-contains}
 use Rattle.std.proofs.lemmas.List.FromFn.{get_or-map-range_with_len, length-map-range_with_len, fill_by_all}
@@ -9,7 +9,7 @@ use Rattle.lattice_core.specs.declared.state.State.{State}
 use Rattle.lattice_core.specs.declared.state.State.TheVariants.{Vacant, Holds}
 use Rattle.lattice_core.specs.Config.{state_at, class_of, held, has_home, state_among, put, cleared, IsWholeAdsorbate, IsAdsorbate, IsWellFormed}
 use Rattle.lattice_core.specs.SiteList.{is_listed}
-use Rattle.lattice_core.proofs.Members.{Contains-from_listed, listed-from_Contains, listed_place, listed_at}
+use Rattle.lattice_core.proofs.Members.{Contains-from_listed, listed_place, listed_at}
 
 -- the parts of what a site holds
 species_of : State → ℕ

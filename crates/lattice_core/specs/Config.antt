@@ -1,8 +1,6 @@
 -- Configurations (Nielsen et al. 2013): which dentate of which adsorbate stands on each site of the lattice.
-use Rattle.std.specs.Prelude.{ℕ, ◌≡◌, ◌≤◌, ◌+◌, ◌*◌, ◌==◌, Bool, true, false, List, [], ◌∷◌, length, map, slice_index, slice_index_or, if◌then◌else◌}
+use Rattle.std.specs.Prelude.{ℕ, ◌≡◌, ◌≤◌, ◌+◌, ◌*◌, ◌==◌, Bool, false, List, [], ◌∷◌, length, map, slice_index, slice_index_or, if◌then◌else◌}
 use Rattle.std.specs.List.{range_with_len}
-use Rattle.kmc_base.specs.declared.ids.SiteId.{SiteId}
-use Rattle.kmc_base.specs.declared.ids.SpeciesId.{SpeciesId}
 use Rattle.lattice_core.specs.declared.state.State.{State}
 use Rattle.lattice_core.specs.declared.state.State.TheVariants.{Vacant, Holds}
 use Rattle.lattice_core.specs.SiteList.{is_listed}

@@ -2,4 +2,5 @@ pub mod Ball
 pub mod Config
 pub mod Fault
 pub mod Lattice
+pub mod Shown
 pub mod SiteList

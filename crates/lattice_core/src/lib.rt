@@ -8,15 +8,18 @@ mod ball;
 mod check;
 mod config;
 mod fault;
+mod given;
 mod graph;
 mod site_list;
 mod state;
+mod states;
 mod steps;
 
 pub use config::{Config, MAX_DENTATES};
 pub use fault::GraphFault;
 pub use graph::{Graph, MAX_NEIGHBOURS};
 pub use state::State;
+pub use states::{Bare, Overlay, States};
 pub use steps::Steps;
 
 #[cfg(test)]

@@ -1,4 +1,4 @@
-use Rattle.std.proofs.Common.{◌≡◌, ◌∙◌, sym, ap, map, set}
+use Rattle.std.proofs.Common.{◌∙◌, sym, ap, map, set}
 use Rattle.std.proofs.lemmas.List.{map-set}
 use Rattle.lattice_core.specs.Config.{class_of}
 use Rattle.lattice_core.proofs.config.Config.write.Goals as goal
