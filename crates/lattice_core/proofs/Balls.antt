@@ -1,11 +1,13 @@
 -- A rising list of what is reached is the ball.
-use Rattle.std.proofs.Common.{◌≡◌, ℕ, ◌<◌, true, ◌&&◌, ltb, List, All, sym, ◌∙◌, ap}
+use Rattle.std.proofs.Common.{◌≡◌, ℕ, ◌<◌, true, ◌&&◌, ltb, List, All, sym, ◌∙◌, ap, get_or, ◌+◌, arith}
 use Rattle.std.specs.List.Sorted.{IsStrictlyIncreasing}
+use Rattle.std.proofs.lemmas.List.Elements.{All-filter}
+use Rattle.std.proofs.lemmas.List.Kept.{IsStrictlyIncreasing-filter}
 use Rattle.lattice_core.specs.Ball.{ball, is_reached}
-use Rattle.lattice_core.specs.Lattice.{Lattice, site_count}
+use Rattle.lattice_core.specs.Lattice.{Lattice, site_count, all_sites}
 use Rattle.lattice_core.specs.SiteList.{is_listed}
 use Rattle.lattice_core.proofs.Members.{same_answers}
-use Rattle.lattice_core.proofs.Merging.{rising_is_filter, listed-below}
+use Rattle.lattice_core.proofs.Merging.{rising_is_filter, listed-below, range-rising, range-below}
 use Rattle.lattice_core.proofs.Walks.{Reached-from_test, test-from_Reached}
 
 pub ball-is : (lattice : Lattice) (centres : List ℕ) (radius : ℕ) (xs sorted : List ℕ) → All (λ s. s < site_count lattice) xs → IsStrictlyIncreasing sorted → ((s : ℕ) → is_listed sorted s ≡ is_listed xs s) → ((s : ℕ) → is_listed xs s ≡ is_reached lattice centres radius s) → sorted ≡ ball lattice centres radius
@@ -23,3 +25,14 @@ reached-from lattice start centres k same s h =
 pub is_reached-same : (lattice : Lattice) (start centres : List ℕ) (k : ℕ) → ((s : ℕ) → is_listed start s ≡ is_listed centres s) → (s : ℕ) → is_reached lattice start k s ≡ is_reached lattice centres k s
 is_reached-same lattice start centres k same s =
     same_answers _ _ (reached-from lattice start centres k same s) (reached-from lattice centres start k (λ t. sym (same t)) s)
+
+-- the ball rises, and its sites are sites of the lattice
+pub ball-rising : (lattice : Lattice) (centres : List ℕ) (radius : ℕ) → IsStrictlyIncreasing (ball lattice centres radius)
+unfolding ball
+ball-rising lattice centres radius = IsStrictlyIncreasing-filter (is_reached lattice centres radius) _ (range-rising 0 (site_count lattice))
+
+pub ball-below : (lattice : Lattice) (centres : List ℕ) (radius : ℕ) → All (λ s. s < site_count lattice) (ball lattice centres radius)
+unfolding ball
+ball-below lattice centres radius =
+    All-filter (is_reached lattice centres radius) (λ s. s < site_count lattice) (all_sites lattice)
+    (λ k d within. let low : get_or (all_sites lattice) k d < 0 + site_count lattice = range-below 0 (site_count lattice) k d within in omega arith)

@@ -14,7 +14,7 @@ use Rattle.lattice_core.proofs.Members.{Contains-from_listed}
 use Rattle.lattice_core.proofs.Rising.{same_rising, is_listed-filter, is_listed-range}
 
 -- the numbers from a on rise
-range-rising : (a n : ℕ) → IsStrictlyIncreasing (range_with_len a n)
+pub range-rising : (a n : ℕ) → IsStrictlyIncreasing (range_with_len a n)
 range-rising a n k within =
     let low : k + 1 < n = omega (arith, length-range_with_len a n) in
     omega (arith, get_or-range_with_len a n k 0 (omega arith), get_or-range_with_len a n (k + 1) 0 low)
@@ -53,3 +53,9 @@ merged-is n list xs below rising same =
 pub merged-same : (n : ℕ) (xs ys : List ℕ) → ((s : ℕ) → is_listed xs s ≡ is_listed ys s) → merged n xs ≡ merged n ys
 unfolding merged
 merged-same n xs ys same = filter_agree (is_listed xs) (is_listed ys) same (range_with_len 0 n)
+
+-- the numbers from a on are below a bound
+pub range-below : (a n : ℕ) → All (λ s. s < a + n) (range_with_len a n)
+range-below a n k d within =
+    let low : k < n = omega (arith, length-range_with_len a n) in
+    omega (arith, get_or-range_with_len a n k d low)

@@ -1,7 +1,9 @@
-//! The lattice of a surface: which sites are neighbours, and which lie near one another.
+//! The lattice of a surface: which sites are neighbours, which lie near one another, and what stands on them.
 //!
 //! A `Graph` is symmetric by its type, and `Graph::new` names the first fault of lists that make none. `ball` is the
-//! rising list of the sites within a distance. It stands on kmc_base.
+//! rising list of the sites within a distance. A `Config` has the state of each site, and stays well formed as
+//! adsorbates are put on it and taken off it; each read of a state is counted by `Steps`. `States` is what shows states:
+//! a `Window` over a ball, an `Overlay` over another, or a `Bare` lattice. It stands on kmc_base.
 #![tactic(auto)]
 
 mod ball;
@@ -14,6 +16,7 @@ mod site_list;
 mod state;
 mod states;
 mod steps;
+mod window;
 
 pub use config::{Config, MAX_DENTATES};
 pub use fault::GraphFault;
@@ -21,6 +24,7 @@ pub use graph::{Graph, MAX_NEIGHBOURS};
 pub use state::State;
 pub use states::{Bare, Overlay, States};
 pub use steps::Steps;
+pub use window::Window;
 
 #[cfg(test)]
 mod tests;

@@ -44,3 +44,11 @@ pub(crate) fn site_in(sites: &[SiteId], place: usize) -> Option<SiteId>
 {
     sites.get(place).copied()
 }
+
+/// The place of a site in a rising list, from 0.
+pub(crate) fn find_site(sites: &[SiteId], site: SiteId) -> Option<usize>
+    requires rising { IsStrictlyIncreasing (site_numbers sites.now) }
+    ensures { result ≡ position (λ t. t == site.0) (site_numbers sites.now) }
+{
+    sites.binary_search(&site).ok()
+}
