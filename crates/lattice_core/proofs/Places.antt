@@ -53,10 +53,11 @@ none_from_is_some (Some x) h = absurd (both_ways true h refl)
 pub place_of-listed : (xs : List ℕ) (s : ℕ) → list_any (λ t. eqb t s) xs ≡ true → (position_or_len (λ t. eqb t s) xs < length xs) × (get_or xs (position_or_len (λ t. eqb t s) xs) 0 ≡ s)
 place_of-listed xs s listed =
     let i = position_or_len (λ t. eqb t s) xs in
-    elim (cases_Bool (ltb i (length xs)))
-    [ inl t ↦ let within = ltb-true _ _ t in (within, eqb-true _ _ (passes_at_first (λ t. eqb t s) xs 0 within))
-    | inr f ↦ let past = ltb-false _ _ f in
-              absurd (both_ways _ (list_any_none (λ t. eqb t s) xs (λ k d low. let before : k < i = omega arith in fails_before_first (λ t. eqb t s) xs k d before)) listed) ]
+    elim (cases_Bool (ltb i (length xs))) [
+      | inl t ↦ let within = ltb-true _ _ t in (within, eqb-true _ _ (passes_at_first (λ t. eqb t s) xs 0 within))
+      | inr f ↦ let past = ltb-false _ _ f in
+          absurd (both_ways _ (list_any_none (λ t. eqb t s) xs (λ k d low. let before : k < i = omega arith in fails_before_first (λ t. eqb t s) xs k d before)) listed)
+    ]
 
 -- the place that was found
 pub position_or_len-found : (xs : List ℕ) (s i : ℕ) → position (λ t. eqb t s) xs ≡ Some i → position_or_len (λ t. eqb t s) xs ≡ i

@@ -2,13 +2,12 @@ ghost use Rattle.std.specs.Prelude.{◌≡◌, ◌≢◌, ◌+◌, ◌<◌, ◌�
 ghost use Rattle.lattice_core.specs.Config.{state_at, class_of, put, cleared, IsWholeAdsorbate, IsWellFormed};
 ghost use Rattle.lattice_core.specs.SiteList.{site_numbers};
 
+use crate::state::{State, class_of};
+use crate::steps::Steps;
 use kmc_base::{OutOfMemory, SiteId, SpeciesId};
 use std::alloc::Global;
 use std::marker::Model;
 use std::sync::ledger::Ledger;
-
-use crate::state::{State, class_of};
-use crate::steps::Steps;
 
 /// The greatest number of dentates of an adsorbate.
 pub const MAX_DENTATES: usize = 8;
@@ -37,7 +36,8 @@ impl Model for Config {
 impl Config {
     /// So many sites, all of them vacant.
     pub fn vacant(alloc: Global, sites: u32) -> Result<Config, OutOfMemory>
-        ensures { IfOk result (λ c. c ≡ replicate sites State.Vacant) }
+        ensures states { IfOk result (λ c. c ≡ replicate sites State.Vacant) }
+        ensures well_formed { IfOk result (λ c. (dentates : ℕ → ℕ) → IsWellFormed dentates c) }
     {
         let states = vec![in alloc; State::Vacant; sites as usize]?;
         let classes = vec![in alloc; 0u32; sites as usize]?;
@@ -88,20 +88,31 @@ impl Config {
         requires inside { All (λ s. s < length self.old) (site_numbers sites.now) }
         requires different { AllPairs (λ s t. s ≢ t) (site_numbers sites.now) }
         requires vacant { All (λ s. state_at self.old s ≡ State.Vacant) (site_numbers sites.now) }
+        ensures count { length self.new ≡ length self.old }
         ensures states { self.new ≡ put self.old species.0 (site_numbers sites.now) }
         ensures well_formed { (dentates : ℕ → ℕ) → dentates species.0 ≡ length sites.now
             → IsWellFormed dentates self.old → IsWellFormed dentates self.new }
+        ensures whole { (dentates : ℕ → ℕ) → IsWellFormed dentates self.old
+            → IsWholeAdsorbate self.new (site_numbers sites.now) }
     {
         let home = sites[0];
         for (place, site) in sites.iter().enumerate() {
             let dentate = place as u8 + 1;
-            self.write(*site, State::Holds { species, dentate, home });
+            self.write(
+                *site,
+                State::Holds {
+                    species,
+                    dentate,
+                    home,
+                },
+            );
         }
     }
 
     /// Takes an adsorbate off all its sites.
     pub fn clear(&mut self, sites: &[SiteId])
         requires { IsWholeAdsorbate self.old (site_numbers sites.now) }
+        ensures count { length self.new ≡ length self.old }
         ensures states { self.new ≡ cleared self.old (site_numbers sites.now) }
         ensures well_formed { (dentates : ℕ → ℕ) → IsWellFormed dentates self.old
             → IsWellFormed dentates self.new }

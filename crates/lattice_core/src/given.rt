@@ -1,11 +1,10 @@
 ghost use Rattle.std.specs.Prelude.{◌≡◌, ◌≤◌, length};
 ghost use Rattle.lattice_core.specs.Shown.{given_at};
 
-use kmc_base::SiteId;
-use std::marker::Model;
-
 use crate::config::MAX_DENTATES;
 use crate::state::State;
+use kmc_base::SiteId;
+use std::marker::Model;
 
 /// States that are given for a few sites.
 #[derive(Debug, Drop)]

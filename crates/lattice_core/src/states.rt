@@ -1,12 +1,11 @@
 ghost use Rattle.std.specs.Prelude.{◌≡◌, ◌≢◌, ◌≤◌, ℕ, AllPairs, IsSome, length, unwrap_or, ⊤, ◌⊎◌};
 ghost use Rattle.lattice_core.specs.Shown.{given_at, state_or_vacant};
 
-use kmc_base::SiteId;
-use std::marker::Model;
-
 use crate::config::MAX_DENTATES;
 use crate::given::Given;
 use crate::state::State;
+use kmc_base::SiteId;
+use std::marker::Model;
 
 /// What shows the states of some sites.
 pub trait States {

@@ -5,17 +5,16 @@ ghost use Rattle.lattice_core.specs.Lattice.{site_count};
 ghost use Rattle.lattice_core.specs.Shown.{InWindow, state_in_window};
 ghost use Rattle.lattice_core.specs.SiteList.{site_numbers};
 
-use kmc_base::{OutOfMemory, SiteId};
-use std::alloc::Global;
-use std::marker::Model;
-use std::sync::ledger::Ledger;
-
 use crate::config::Config;
 use crate::graph::Graph;
 use crate::site_list::find_site;
 use crate::state::State;
 use crate::states::States;
 use crate::steps::Steps;
+use kmc_base::{OutOfMemory, SiteId};
+use std::alloc::Global;
+use std::marker::Model;
+use std::sync::ledger::Ledger;
 
 /// The states of the sites of a ball, as they were when it was loaded.
 #[derive(Debug, Drop)]

@@ -20,7 +20,7 @@ fn lists(alloc: Global, text: &str) -> Result<Vec<Vec<SiteId>>, Fail> {
 }
 
 /// The graph of such lists, or its fault. The type of each site is 7.
-fn graph(
+pub(super) fn graph(
     rt: &impl Abort,
     alloc: Global,
     lists: Vec<Vec<SiteId>>,
@@ -33,7 +33,7 @@ fn graph(
 }
 
 /// Sites in rows of so many columns, each joined to those at these displacements, both modulo the size.
-fn grid(
+pub(super) fn grid(
     alloc: Global,
     rows: u32,
     columns: u32,
@@ -78,7 +78,7 @@ fn deck_ball(
     Ok(numbers)
 }
 
-const RECTANGULAR: &[(u32, u32)] = &[(0, 1), (1, 0)];
+pub(super) const RECTANGULAR: &[(u32, u32)] = &[(0, 1), (1, 0)];
 
 const HEXAGONAL: &[(u32, u32)] = &[(0, 1), (1, 0), (1, 1)];
 

@@ -19,6 +19,7 @@ loop-site-preserved g c =
     let i = c.loop-site.site-index in
     let ns = site_numbers c.args.sites.now in
     let f = state_at c.args.config.now in
-    let is = number_of-is c.args.sites.now i (omega arith) in
-    (more_read c.args.config.now ns i _ _ _ is.0 c.loop-site.invariant.0 c.in_ok-push.ensures.items (c.at.ensures.state ∙ ap f (sym is.1)),
-     omega (arith, c.at.ensures.reads, c.loop-site.invariant.1))
+    let is = number_of-is c.args.sites.now i (omega arith) in (
+      more_read c.args.config.now ns i c.loop-site.states.items c.push.new.self.items c.at.result is.0 c.loop-site.invariant.0 c.in_ok-push.ensures.items (c.at.ensures.state ∙ ap f (sym is.1)),
+      omega (arith, c.at.ensures.reads, c.loop-site.invariant.1),
+    )

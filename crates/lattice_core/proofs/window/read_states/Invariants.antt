@@ -1,4 +1,4 @@
-use Rattle.std.proofs.Common.{◌≡◌, ◌+◌, length, map, take}
+use Rattle.std.proofs.Common.{◌≡◌, ◌+◌, map, take}
 use Rattle.lattice_core.specs.Config.{state_at}
 use Rattle.lattice_core.specs.SiteList.{site_numbers}
 use Rattle.lattice_core.proofs.window.read_states.Given as goal

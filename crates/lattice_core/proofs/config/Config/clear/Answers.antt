@@ -26,8 +26,8 @@ loop-site-preserved c =
     record {
       same_length = ap length c.write.ensures ∙ length-set _ _ _ ∙ c.loop-site.invariant.same_length;
       states = λ s. ap (λ l. state_at l s) c.write.ensures
-        ∙ cleared_step c.loop-site.self c.args.self.now x s (is_listed (take i ns) s) (omega (arith, within, c.loop-site.invariant.same_length)) (c.loop-site.invariant.states s)
-        ∙ ap (λ b. cond b Vacant (state_at c.args.self.now s)) (is_listed-more ns i x s is.0 is.1);
+          ∙ cleared_step c.loop-site.self c.args.self.now x s (is_listed (take i ns) s) (omega (arith, within, c.loop-site.invariant.same_length)) (c.loop-site.invariant.states s)
+          ∙ ap (λ b. cond b Vacant (state_at c.args.self.now s)) (is_listed-more ns i x s is.0 is.1);
     }
 
 -- all the sites are vacant

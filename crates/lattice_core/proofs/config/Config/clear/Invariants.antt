@@ -8,5 +8,5 @@ use Rattle.lattice_core.proofs.config.Config.clear.Given as goal
 abbrev pub invariant-loop-site : goal.invariant-loop-site
 invariant-loop-site l = record {
   same_length : length l.self ≡ length l.fn.self;
-  states : (s : ℕ) → state_at l.self s ≡ cond (is_listed (take l.site-index (site_numbers l.sites)) s) Vacant (state_at l.fn.self s)
+  states : (s : ℕ) → state_at l.self s ≡ cond (is_listed (take l.site-index (site_numbers l.sites)) s) Vacant (state_at l.fn.self s);
 }

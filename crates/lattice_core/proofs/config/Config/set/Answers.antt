@@ -1,9 +1,9 @@
 use Rattle.std.proofs.Common.{◌≡◌, ◌<◌, ◌≤◌, ◌+◌, ◌∙◌, length, get_or, set, drop, slice_index, ap, sym, subst, arith}
 use Rattle.std.proofs.lemmas.List.{length-map, length-set}
 use Rattle.kmc_base.specs.declared.ids.SiteId.{SiteId}
-use Rattle.lattice_core.specs.Config.{state_at, state_among, held, put, IsWellFormed}
+use Rattle.lattice_core.specs.Config.{state_at, state_among, held, put, IsWellFormed, IsWholeAdsorbate}
 use Rattle.lattice_core.specs.SiteList.{site_numbers}
-use Rattle.lattice_core.proofs.Adsorbates.{put-is, among_more, among_all, put-well_formed}
+use Rattle.lattice_core.proofs.Adsorbates.{put-is, among_more, among_all, put-well_formed, put-whole}
 use Rattle.lattice_core.proofs.Finding.{number_of, number_of-is, All-number}
 use Rattle.lattice_core.proofs.config.Config.set.Goals as goal
 use Rattle.lattice_core.proofs.config.Config.set.Goals.{After-loop-place, After-write}
@@ -33,8 +33,8 @@ loop-place-preserved c =
     record {
       same_length = ap length c.write.ensures ∙ length-set _ _ _ ∙ c.loop-place.invariant.same_length;
       states = λ s. ap (λ l. state_among c.args.species.0 home (i + 1 + 1) (drop (i + 1) ns) s (state_at l s)) wrote
-        ∙ among_more c.args.species.0 home i ns c.loop-place.self s here.0 (omega (arith, inside, c.loop-place.invariant.same_length)) c.requires.different
-        ∙ c.loop-place.invariant.states s;
+          ∙ among_more c.args.species.0 home i ns c.loop-place.self s here.0 (omega (arith, inside, c.loop-place.invariant.same_length)) c.requires.different
+          ∙ c.loop-place.invariant.states s;
     }
 
 -- the adsorbate is on all its sites
@@ -54,3 +54,10 @@ returns-clause-well_formed c = λ dentates count sound.
     let lengths = length-map c.args.sites.now (λ (s : SiteId). s.0) in
     subst (IsWellFormed dentates) (sym (done (goal.at.returns-clause-well_formed c).After-loop-place c.loop-place-test.false))
     (put-well_formed c.args.self.now c.args.species.0 ns c.requires.different c.requires.inside c.requires.vacant (omega (arith, lengths, c.requires.has_a_site)) dentates (count ∙ sym lengths) sound)
+
+pub returns-clause-whole : goal.returns-clause-whole
+returns-clause-whole c = λ dentates sound.
+    let ns = site_numbers c.args.sites.now in
+    let lengths = length-map c.args.sites.now (λ (s : SiteId). s.0) in
+    subst (λ states. IsWholeAdsorbate states ns) (sym (done (goal.at.returns-clause-whole c).After-loop-place c.loop-place-test.false))
+    (put-whole c.args.self.now c.args.species.0 ns c.requires.different c.requires.inside c.requires.vacant (omega (arith, lengths, c.requires.has_a_site)) dentates sound)

@@ -1,4 +1,4 @@
-use Rattle.std.proofs.Common.{◌≡◌, ◌<◌, ◌∙◌, ℕ, List, [], ◌∷◌, All, length, map, sym, ap, subst, arith}
+use Rattle.std.proofs.Common.{◌≡◌, ◌<◌, ◌∙◌, [], ◌∷◌, All, length, map, sym, ap, subst}
 use Rattle.std.proofs.lemmas.List.{length-map}
 use Rattle.kmc_base.specs.declared.ids.SiteId.{SiteId}
 use Rattle.lattice_core.specs.declared.state.State.TheVariants.{Vacant}
@@ -17,12 +17,13 @@ read_states-requires g c =
     (subst (λ n. All (λ s. s < n) sites) (sym c.requires.configuration) (ball-below c.args.graph.now (c.args.anchor.0 ∷ []) c.args.radius))
 
 pub invariant_of-self-2 : goal.invariant_of-self-2
-invariant_of-self-2 g c =
-    (rw c.in_ok-sites.ensures.ball (ball-rising c.args.graph.now (c.args.anchor.0 ∷ []) c.args.radius),
-     ap length c.in_ok-states.ensures.states
-     ∙ length-map (site_numbers c.deref.result.now) (state_at c.args.config.now)
-     ∙ length-map c.deref.result.now (λ (s : SiteId). s.0)
-     ∙ ap length c.deref.ensures.value)
+invariant_of-self-2 g c = (
+  rw c.in_ok-sites.ensures.ball (ball-rising c.args.graph.now (c.args.anchor.0 ∷ []) c.args.radius),
+  ap length c.in_ok-states.ensures.states
+      ∙ length-map (site_numbers c.deref.result.now) (state_at c.args.config.now)
+      ∙ length-map c.deref.result.now (λ (s : SiteId). s.0)
+      ∙ ap length c.deref.ensures.value,
+)
 
 pub returns-clause-shows : goal.returns-clause-shows
 returns-clause-shows g c = λ s inside.
