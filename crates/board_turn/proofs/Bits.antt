@@ -52,3 +52,11 @@ narrowed a b h small = subst (λ n. n < 2 ^ 48) (sym same) (omega (arith, and_le
     low p = omega (arith, bit_at_and a b p, h p)
     same : a ≡ bit_and a b
     same = same_from_bits a (bit_and a b) low
+
+-- a set in a set that has no piece in common with b
+pub apart_less : (a b d : ℕ) → Within a d → bit_and d b ≡ 0 → bit_and a b ≡ 0
+apart_less a b d h e = same_from_bits (bit_and a b) 0 (λ p. omega (arith, bit_at_and a b p, bit_at-zero p, h p, apart_bits d b p e))
+
+-- the pieces of a set that lies in another are those of both
+pub and_within : (a b : ℕ) → Within b a → bit_and a b ≡ b
+and_within a b h = same_from_bits (bit_and a b) b (λ p. omega (arith, bit_at_and a b p, h p))
