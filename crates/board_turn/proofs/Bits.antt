@@ -60,3 +60,13 @@ apart_less a b d h e = same_from_bits (bit_and a b) 0 (λ p. omega (arith, bit_a
 -- the pieces of a set that lies in another are those of both
 pub and_within : (a b : ℕ) → Within b a → bit_and a b ≡ b
 and_within a b h = same_from_bits (bit_and a b) b (λ p. omega (arith, bit_at_and a b p, h p))
+
+-- the tests of the code, at the mask of one piece
+pub set_at : (n bit k : ℕ) → bit ≡ 2 ^ k → bit_and n bit ≢ 0 → bit_at n k ≡ 1
+set_at n bit k is ne = set_bit n k (λ z. ne (ap (bit_and n) is ∙ z))
+
+pub unset_at : (n bit k : ℕ) → bit ≡ 2 ^ k → bit_and n bit ≡ 0 → bit_at n k ≡ 0
+unset_at n bit k is z = unset_bit n k (sym (ap (bit_and n) is) ∙ z)
+
+pub or_has : (n bit k : ℕ) → bit ≡ 2 ^ k → bit_at (bit_or n bit) k ≡ 1
+or_has n bit k is = omega (arith, bit_at_or n bit k, ap (λ b. bit_at b k) is, bit_at-pow_same k, bit_at-lt n k)

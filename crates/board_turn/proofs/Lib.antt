@@ -4,3 +4,4 @@ pub mod Puts
 pub mod Claims
 pub mod Turns
 pub mod Steps
+pub mod Seats
