@@ -50,6 +50,7 @@ narrowed a b h small = subst (λ n. n < 2 ^ 48) (sym same) (omega (arith, and_le
   where
     low : (p : ℕ) → bit_at a p ≡ bit_at (bit_and a b) p
     low p = omega (arith, bit_at_and a b p, h p)
+
     same : a ≡ bit_and a b
     same = same_from_bits a (bit_and a b) low
 

@@ -199,5 +199,5 @@ module _ {K : Type 0} where
   owners_claims key d views id v c me leads all = same_from_bits v.claims d (λ p.
       let g : View K → ℕ = λ u. bit_at u.claims p in
       let nothing : total g (set views id spent) ≡ 0 = total-none g (set views id spent) (each_set (λ u. bit_at u.claims p ≡ 0) views id spent
-          (λ j u ne e. ap (λ n. bit_at n p) ((c.each j u e).hollow (follows key d views id j v u c leads ne me e) (none_left key d views c all j u e)) ∙ bit_at-zero p) (bit_at-zero p)) in
+      (λ j u ne e. ap (λ n. bit_at n p) ((c.each j u e).hollow (follows key d views id j v u c leads ne me e) (none_left key d views c all j u e)) ∙ bit_at-zero p) (bit_at-zero p)) in
       omega (arith, total-set g views id v spent me, c.union p, bit_at-zero p))

@@ -1,9 +1,9 @@
 -- What one put does to the parts that are out.
-use Rattle.std.proofs.Common.{◌≡◌, ℕ, ◌^◌, Result, Ok, Err, OnOk, IfErr, subst, sym, arith, bit_or}
+use Rattle.std.proofs.Common.{◌≡◌, ℕ, ◌^◌, Result, Ok, Err, OnOk, IfErr, refl, ap, subst, sym, arith, bit_and, bit_or}
 use Rattle.std.specs.Int.{bit_at}
-use Rattle.std.proofs.lemmas.Nat.Bits.{bit_at_or}
+use Rattle.std.proofs.lemmas.Nat.Bits.{bit_at_and, bit_at_or, same_from_bits}
 use Rattle.board_turn.specs.Masks.{Within}
-use Rattle.board_turn.proofs.Bits.{Within-or, or-Within, pow-Within}
+use Rattle.board_turn.proofs.Bits.{Within-or, or-Within, pow-Within, or_has}
 
 module _ {B K : Type 0} (is_patch : B → K → Type 0) (done : B → ℕ) where
   pub record Keeps (new : B) (key : K) (known claims : ℕ) : Type 0 where
@@ -25,3 +25,26 @@ module _ {B K F M X : Type 0} (is_patch : B → K → Type 0) (is_right : K → 
     grows = subst (λ x. Within known (done x)) (sym back.1) grows;
     within = subst (λ x. Within (done x) (bit_or known claims)) (sym back.1) within;
   }
+
+-- one piece more is done, which is claimed: it joins the puts
+pub put_joins : (claims known done had puts piece : ℕ) → had ≡ bit_and claims known → done ≡ bit_or known (2 ^ piece) → puts ≡ bit_and claims done → bit_at claims piece ≡ 1 → puts ≡ bit_or had (2 ^ piece)
+put_joins claims known done had puts piece was more now claimed = same_from_bits puts (bit_or had (2 ^ piece)) (λ p. omega (
+  arith,
+  ap (λ n. bit_at n p) was,
+  ap (λ n. bit_at n p) more,
+  ap (λ n. bit_at n p) now,
+  bit_at_and claims known p,
+  bit_at_and claims done p,
+  bit_at_or known (2 ^ piece) p,
+  bit_at_or had (2 ^ piece) p,
+  pow-Within piece claims claimed p,
+))
+
+pub put_has : (claims known done puts piece : ℕ) → done ≡ bit_or known (2 ^ piece) → puts ≡ bit_and claims done → bit_at claims piece ≡ 1 → bit_at puts piece ≡ 1
+put_has claims known done puts piece more now claimed = omega (
+  arith,
+  ap (λ n. bit_at n piece) more,
+  ap (λ n. bit_at n piece) now,
+  bit_at_and claims done piece,
+  or_has known (2 ^ piece) piece refl,
+)

@@ -23,6 +23,10 @@ counted_le : (b : Bool) (n : ℕ) → counted b n ≤ n
 counted_le true n = omega arith
 counted_le false n = omega arith
 
+first_of_all : (ws : List ℕ) (n : ℕ) → get_elem? ws 0 ≡ m.some n → get_or ws 0 0 ≡ n
+first_of_all [] n e = absurd (m.some-ne-none n (sym e))
+first_of_all (x ∷ xs) n e = m.some-injective x n e
+
 module _ {B K : Type 0} (is_patch : B → K → Type 0) (done_set : B → ℕ) (key : K) where
   abbrev Rule : State (Option B) (View K) → Type 0
   Rule = Orderly is_patch done_set key
@@ -65,10 +69,16 @@ module _ {B K : Type 0} (is_patch : B → K → Type 0) (done_set : B → ℕ) (
   learns d word homes views id v c t me = let a = t.each id v me in record {
     puts = a.puts;
     found = a.found;
-    apart = λ numbered idle is. omega (arith,
+    apart = λ numbered idle is. omega (
+      arith,
       total_less (holds_as v.number) (λ u. only v.number u.number) views id v (λ u. counted_le u.holds (only v.number u.number)) me,
-      c.once (only v.number) (only-other v.number 0 (λ e. omega arith)), below-once v.number c.next, t.busy v.number numbered,
-      ap (only v.number) is, only-same v.number, ap (λ b. counted b (only v.number v.number)) idle);
+      c.once (only v.number) (only-other v.number 0 (λ e. omega arith)),
+      below-once v.number c.next,
+      t.busy v.number numbered,
+      ap (only v.number) is,
+      only-same v.number,
+      ap (λ b. counted b (only v.number v.number)) idle,
+    );
   }
 
   pub begins : (parts : B) → is_patch parts key → done_set parts ≡ 0 → Rule (opening (0 ∷ 0 ∷ []) (Some parts ∷ []) (first_owner key))
@@ -106,12 +116,16 @@ module _ {B K : Type 0} (is_patch : B → K → Type 0) (done_set : B → ℕ) (
       let v = out.0 in
       dite (ℕ_discrete (bit_and r bit) 0)
       (λ unset. (
-        claiming v r bit, keeps, tt,
+        claiming v r bit,
+        keeps,
+        tt,
         after0 s o (bit_or r bit) (set s.views id (claiming v r bit)) (claims.claimed key r bit s.views id v o.claims me small unset numbered) (turns.claimed is_patch done_set key r bit word s.homes s.views id v o.turn me unset),
         record { won = λ _. (refl, apart_less v.claims bit r (λ p. omega (arith, (o.claims.each id v me).claims p, (o.claims.each id v me).seen p)) unset); lost = λ ne. absurd (ne unset) },
       ))
       (λ isset. (
-        finding v r bit, keeps, tt,
+        finding v r bit,
+        keeps,
+        tt,
         after0 s o (bit_or r bit) (set s.views id (finding v r bit))
             (claims.found key r bit s.views id v o.claims me small (subst (λ x. Within x r) (sym is) (pow-Within piece r (set_bit r piece (λ z. isset (ap (bit_and r) is ∙ z))))))
             (turns.found is_patch done_set key r bit word s.homes s.views id v o.turn me),
@@ -141,7 +155,10 @@ module _ {B K : Type 0} (is_patch : B → K → Type 0) (done_set : B → ℕ) (
 
   pub looks : (n id : ℕ) (out : Out) → Allows Rule n id out 1 (λ x. x) (Looked (step n 1 0 0 m.none) out)
   looks n id out s o wide me _ = (
-    looking out.0 (get_or s.words 1 0), keeps, tt, look_at s o id out.0 me,
+    looking out.0 (get_or s.words 1 0),
+    keeps,
+    tt,
+    look_at s o id out.0 me,
     record { seat = refl; learns = learns (get_or s.words 0 0) (get_or s.words 1 0) s.homes s.views id out.0 o.claims o.turn me },
   )
 
@@ -159,23 +176,22 @@ module _ {B K : Type 0} (is_patch : B → K → Type 0) (done_set : B → ℕ) (
       let then : ℕ → Out → Type 0 = Tried is_patch done_set (step n 1 old new m.none) out in
       exchanged r old new (Goes s id out then)
       (λ hit.
-        let w : View K = holding v r in
-        let home = o.turn.home (ap holder hit ∙ free) in
-        let hs : List (m.Option (Option B)) = set s.homes 0 m.none in
-        let word : new ≡ v.number * 281474976710656 + r = is ∙ ap (λ x. v.number * 281474976710656 + x) (sym hit) in
-        (
-          w,
-          takes 0 (Some home.parts),
-          home.here,
-          after1 s o new hs (set s.views id w) (length-set s.homes 0 m.none)
-              (claims.unclaimed key d s.views id v w o.claims me refl refl refl (same_claimer d o.claims.next o.claims.joined v w (refl, refl, refl, refl, refl, refl, refl, refl) (o.claims.each id v me)))
-              (subst (λ x. Turning is_patch done_set key d x hs (set s.views id w)) (sym word) (turns.took is_patch done_set key d r s.homes hs s.views id v o.turn me (ap holder hit ∙ free) numbered idle)),
-          record {
-            learns = told;
-            won = λ _. record { parts = home.parts; seat = refl; patch = λ k shows. subst (is_patch home.parts) (sym ((o.claims.each id v me).keyed k shows)) home.patch; done = home.same };
-            lost = λ ne. absurd (ne hit);
-          },
-        ))
+      let w : View K = holding v r in
+      let home = o.turn.home (ap holder hit ∙ free) in
+      let hs : List (m.Option (Option B)) = set s.homes 0 m.none in
+      let word : new ≡ v.number * 281474976710656 + r = is ∙ ap (λ x. v.number * 281474976710656 + x) (sym hit) in (
+        w,
+        takes 0 (Some home.parts),
+        home.here,
+        after1 s o new hs (set s.views id w) (length-set s.homes 0 m.none)
+            (claims.unclaimed key d s.views id v w o.claims me refl refl refl (same_claimer d o.claims.next o.claims.joined v w (refl, refl, refl, refl, refl, refl, refl, refl) (o.claims.each id v me)))
+            (subst (λ x. Turning is_patch done_set key d x hs (set s.views id w)) (sym word) (turns.took is_patch done_set key d r s.homes hs s.views id v o.turn me (ap holder hit ∙ free) numbered idle)),
+        record {
+          learns = told;
+          won = λ _. record { parts = home.parts; seat = refl; patch = λ k shows. subst (is_patch home.parts) (sym ((o.claims.each id v me).keyed k shows)) home.patch; done = home.same };
+          lost = λ ne. absurd (ne hit);
+        },
+      ))
       (λ miss. (looking v r, keeps, tt, look_at s o id v me, record { learns = told; won = λ hit. absurd (miss hit); lost = λ _. refl }))
 
   gives_as : (n id : ℕ) (v : View K) (parts : B) (k : K) (new : ℕ) → v.holds ≡ true → v.key ≡ Some k → is_patch parts k → done_set parts ≡ new → new < 281474976710656 → Within v.known new → Within new (bit_or v.known v.claims)
@@ -187,8 +203,7 @@ module _ {B K : Type 0} (is_patch : B → K → Type 0) (done_set : B → ℕ) (
       let one = o.slots in
       let hs : List (m.Option (Option B)) = set s.homes 0 (m.some (Some parts)) in
       let a = o.claims.each id v me in
-      let b = o.turn.each id v me in
-      (
+      let b = o.turn.each id v me in (
         w,
         gives,
         tt,
@@ -239,3 +254,22 @@ module _ {B K : Type 0} (is_patch : B → K → Type 0) (done_set : B → ℕ) (
         puts = (t.each id v me).puts ∙ (ap (λ n. bit_and n (mask r)) drawn ∙ (and_within d (mask r) t.claimed ∙ sym home.same));
         claims = drawn ∙ ap (λ l. get_or l 0 0) end.2;
       }
+
+  -- the parts and the first word, as they come out of the table
+  pub record Ended (v : View K) (parts : B) (word : ℕ) : Type 0 where
+    pub patch : is_patch parts key
+    pub puts : done_set parts ≡ v.puts
+    pub claims : word ≡ v.claims
+
+  pub ends : (v : View K) (ws : List ℕ) (xs : List (Option B)) (slot : Option B) (parts : B) (word : ℕ) → Left v ws xs → get_elem? xs 0 ≡ m.some slot → slot ≡ Some parts → get_elem? ws 0 ≡ m.some word → Ended v parts word
+  ends v ws xs slot parts word left out is first =
+      let found : Some left.parts ≡ slot = m.some-injective _ _ (sym left.here ∙ out) in
+      let same : left.parts ≡ parts = cc in
+      record {
+        patch = subst (λ p. is_patch p key) same left.patch;
+        puts = ap done_set (sym same) ∙ sym left.puts;
+        claims = sym (first_of_all ws word first) ∙ sym left.claims;
+      }
+
+  pub never_empty : (v : View K) (ws : List ℕ) (xs : List (Option B)) (slot : Option B) → Left v ws xs → get_elem? xs 0 ≡ m.some slot → slot ≡ None → ⊥
+  never_empty v ws xs slot left out is = let found : Some left.parts ≡ slot = m.some-injective _ _ (sym left.here ∙ out) in cc

@@ -71,7 +71,7 @@ module _ {B K : Type 0} (is_patch : B → K → Type 0) (done_set : B → ℕ) (
       → w.holds ≡ v.holds → w.number ≡ v.number → Within d d' → IsPutter (mask word) w → Turning is_patch done_set key d' word homes (set views id w)
   unturned d d' word homes views id v w t me holds number grows mine =
       stepped d d' word word homes homes views id v w t me (λ n h. ap (λ (x : Bool × ℕ). counted x.0 (only n x.1) + only n (holder word)) (λ i. (holds i, number i))) t.home (Within-trans (mask word) d d' t.claimed grows)
-          (λ j u ne e. t.each j u e) mine
+      (λ j u ne e. t.each j u e) mine
 
   pub found : (d bit word : ℕ) (homes : List (m.Option (Option B))) (views : List (View K)) (id : ℕ) (v : View K) → Turning is_patch done_set key d word homes views → get_elem? views id ≡ m.some v
       → Turning is_patch done_set key (bit_or d bit) word homes (set views id (finding v d bit))
@@ -82,7 +82,7 @@ module _ {B K : Type 0} (is_patch : B → K → Type 0) (done_set : B → ℕ) (
       → Turning is_patch done_set key (bit_or d bit) word homes (set views id (claiming v d bit))
   claimed d bit word homes views id v t me unset = let a = t.each id v me in
       unturned d (bit_or d bit) word homes views id v (claiming v d bit) t me refl refl (λ p. omega (arith, bit_at_or d bit p))
-          record { holds = a.holds; puts = puts_same v.claims bit (mask word) d v.puts a.puts t.claimed unset; found = a.found }
+      record { holds = a.holds; puts = puts_same v.claims bit (mask word) d v.puts a.puts t.claimed unset; found = a.found }
 
   pub looked : (d word : ℕ) (homes : List (m.Option (Option B))) (views : List (View K)) (id : ℕ) (v : View K) → Turning is_patch done_set key d word homes views → get_elem? views id ≡ m.some v
       → Turning is_patch done_set key d word homes (set views id (looking v word))
@@ -99,12 +99,12 @@ module _ {B K : Type 0} (is_patch : B → K → Type 0) (done_set : B → ℕ) (
       let same : mask word' ≡ mask word = omega (arith, free) in
       let holds : holder word' ≡ v.number = omega (arith, free) in
       stepped d d word word' homes homes' views id v w t me
-          (λ n h. omega (arith, no n v idle, ap (only n) holds, ap (only n) free, only-other n 0 (λ e. omega arith))) (λ z. absurd (omega arith)) (subst (λ n. Within n d) (sym same) t.claimed)
-          (λ j u ne e. subst (λ n. IsPutter n u) (sym same) (t.each j u e)) (subst (λ n. IsPutter n w) (sym same) record {
-            holds = λ h. (numbered, refl);
-            puts = a.puts;
-            found = found_more (mask word) word v.found a.found (λ p. omega arith);
-          })
+      (λ n h. omega (arith, no n v idle, ap (only n) holds, ap (only n) free, only-other n 0 (λ e. omega arith))) (λ z. absurd (omega arith)) (subst (λ n. Within n d) (sym same) t.claimed)
+      (λ j u ne e. subst (λ n. IsPutter n u) (sym same) (t.each j u e)) (subst (λ n. IsPutter n w) (sym same) record {
+        holds = λ h. (numbered, refl);
+        puts = a.puts;
+        found = found_more (mask word) word v.found a.found (λ p. omega arith);
+      })
 
   -- the one that holds the turn is the holder
   holder_is : (d word : ℕ) (homes : List (m.Option (Option B))) (views : List (View K)) (id : ℕ) (v : View K) → Turning is_patch done_set key d word homes views → get_elem? views id ≡ m.some v → v.holds ≡ true → holder word ≡ v.number
@@ -118,8 +118,16 @@ module _ {B K : Type 0} (is_patch : B → K → Type 0) (done_set : B → ℕ) (
   idle_else d word homes views id j v u t ne me them mine theirs =
       let same : u.number ≡ v.number = sym (holder_is d word homes views j u t them theirs) ∙ holder_is d word homes views id v t me mine in
       let n = ((t.each id v me).holds mine).0 in
-      omega (arith, terms_le (holds_as v.number) views id j v u ne me them, t.busy v.number n, ap (only v.number) (holder_is d word homes views id v t me mine),
-        yes v.number v mine, yes v.number u theirs, ap (only v.number) same, only-same v.number)
+      omega (
+        arith,
+        terms_le (holds_as v.number) views id j v u ne me them,
+        t.busy v.number n,
+        ap (only v.number) (holder_is d word homes views id v t me mine),
+        yes v.number v mine,
+        yes v.number u theirs,
+        ap (only v.number) same,
+        only-same v.number,
+      )
 
   -- the turn is given back: the slot is at home
   pub gave : (d word done : ℕ) (homes homes' : List (m.Option (Option B))) (views : List (View K)) (id : ℕ) (v : View K) → Claiming key d views → Turning is_patch done_set key d word homes views → get_elem? views id ≡ m.some v
@@ -134,19 +142,19 @@ module _ {B K : Type 0} (is_patch : B → K → Type 0) (done_set : B → ℕ) (
       let within' : Within done (bit_or (mask word) v.claims) = subst (λ n. Within done (bit_or n v.claims)) known within in
       let b = c.each id v me in
       stepped d d word done homes homes' views id v (giving v done) t me
-          (λ n h. omega (arith, yes n v holds, ap (only n) was, ap (only n) free, only-other n 0 (λ e. omega arith)))
-          (λ z. subst (λ n. IsHome is_patch done_set key n homes') (sym same) home)
-          (λ p. omega (arith, ap (λ n. bit_at n p) same, within' p, bit_at_or (mask word) v.claims p, t.claimed p, b.claims p, b.seen p))
-          (λ j u ne e. let x = t.each j u e in subst (λ n. IsPutter n u) (sym same) record {
-            holds = λ h. absurd (idle_else d word homes views id j v u t ne me e holds h);
-            puts = puts_apart u.claims (mask word) done v.claims u.puts x.puts grows' within' (apart_claims key d views id j v u c ne me e);
-            found = found_wider (mask word) done u.found grows' x.found;
-          })
-          (subst (λ n. IsPutter n (giving v done)) (sym same) record {
-            holds = λ h. absurd (true≢false (sym h));
-            puts = refl;
-            found = found_wider (mask word) done v.found grows' a.found;
-          })
+      (λ n h. omega (arith, yes n v holds, ap (only n) was, ap (only n) free, only-other n 0 (λ e. omega arith)))
+      (λ z. subst (λ n. IsHome is_patch done_set key n homes') (sym same) home)
+      (λ p. omega (arith, ap (λ n. bit_at n p) same, within' p, bit_at_or (mask word) v.claims p, t.claimed p, b.claims p, b.seen p))
+      (λ j u ne e. let x = t.each j u e in subst (λ n. IsPutter n u) (sym same) record {
+        holds = λ h. absurd (idle_else d word homes views id j v u t ne me e holds h);
+        puts = puts_apart u.claims (mask word) done v.claims u.puts x.puts grows' within' (apart_claims key d views id j v u c ne me e);
+        found = found_wider (mask word) done u.found grows' x.found;
+      })
+      (subst (λ n. IsPutter n (giving v done)) (sym same) record {
+        holds = λ h. absurd (true≢false (sym h));
+        puts = refl;
+        found = found_wider (mask word) done v.found grows' a.found;
+      })
 
   first : (i : ℕ) (v : View K) → get_elem? (first_owner key ∷ []) i ≡ m.some v → IsPutter 0 v
   first zero v e = subst (IsPutter 0) (m.some-injective _ _ e) record { holds = λ h. absurd (true≢false (sym h)); puts = refl; found = All-nil (λ w. Within (mask w) 0) }
@@ -182,4 +190,4 @@ module _ {B K : Type 0} (is_patch : B → K → Type 0) (done_set : B → ℕ) (
       let o = unturned d d word homes views id v both t me refl refl (λ p. omega arith) record { holds = a.holds; puts = puts_both v.claims w.claims (mask word) v.puts w.puts a.puts b.puts; found = a.found } in
       let there : get_elem? (set views id both) other ≡ m.some w = set_else views id other both ne ∙ them in
       stepped d d word word homes homes (set views id both) other w none o there (λ n h. omega (arith, no n w idle)) o.home o.claimed (λ j u far e. o.each j u e)
-          record { holds = λ h. absurd (true≢false (sym h)); puts = refl; found = All-nil (λ x. Within (mask x) (mask word)) }
+      record { holds = λ h. absurd (true≢false (sym h)); puts = refl; found = All-nil (λ x. Within (mask x) (mask word)) }

@@ -16,8 +16,7 @@ store-requires g c =
     let was = c.requires.taken in
     let me = c.exchange-empty.new.seat.me in
     let e = c.exchange-empty.ensures.3 in
-    let done = c.done-done.ensures in
-    (
+    let done = c.done-done.ensures in (
       search rules,
       search rules,
       gives_turn g.B.Parts.is_patch g.B.Parts.done_set _ _ _ me turn.parts turn.key.value.value c.done-done.result

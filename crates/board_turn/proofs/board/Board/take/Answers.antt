@@ -12,8 +12,7 @@ pub compare_exchange-seen-requires : goal.compare_exchange-seen-requires
 compare_exchange-seen-requires g c =
     let pass = c.args.pass.now in
     let first = c.load-was.ensures.2.seat in
-    let number = ap (λ m. m.0.number) first in
-    (
+    let number = ap (λ m. m.0.number) first in (
       search rules,
       search rules,
       takes_turn g.B.Parts.is_patch g.B.Parts.done_set _ _ _ c.load-was.new.seat.me c.load-was.result _ c.if-was-ne0.false (ap (λ n. n * 281474976710656 + c.load-was.result) (pass.numbered ∙ sym number))
@@ -26,7 +25,7 @@ returns-then-seen-was-clause-busy g c =
     let first = c.load-was.ensures.2 in
     let last = c.compare_exchange-seen.ensures.2 in
     busy_again pass.seat c.load-was.new.seat c.compare_exchange-seen.new.seat c.load-was.result c.compare_exchange-seen.result first.seat first.learns (last.lost c.if-seen-was.true) last.learns c.if-was-ne0.false
-        c.if-seen-was.true (omega (arith, pass.numbered, pass.in_range.0)) c.requires.idle
+    c.if-seen-was.true (omega (arith, pass.numbered, pass.in_range.0)) c.requires.idle
 
 pub exchange-requires : goal.exchange-requires
 exchange-requires g c = let t = c.compare_exchange-seen.ensures.2.won c.if-seen-was.false in
@@ -37,7 +36,7 @@ invariant_of-result g c =
     let pass = c.args.pass.now in
     let shown = c.of-2.result.value in
     let t = taken g.B.Parts.is_patch g.B.Parts.done_set pass.seat.me c.load-was.new.seat.me c.compare_exchange-seen.new.seat.me shown.me c.load-was.result c.compare_exchange-seen.result c.unwrap-parts.result c.of.result.value.value
-        c.exchange.result c.load-was.ensures.2.seat (c.compare_exchange-seen.ensures.2.won c.if-seen-was.false) c.if-seen-was.false (search rules) (search rules) (search rules) (search rules) c.if-was-ne0.false in
+    c.exchange.result c.load-was.ensures.2.seat (c.compare_exchange-seen.ensures.2.won c.if-seen-was.false) c.if-seen-was.false (search rules) (search rules) (search rules) (search rules) c.if-was-ne0.false in
     record {
       patch = t.patch;
       narrow = (t.narrow, omega (arith, t.claims, pass.narrow));

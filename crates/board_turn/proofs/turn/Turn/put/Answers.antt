@@ -6,5 +6,5 @@ invariant_of-self g c =
     let t = c.args.self.now in
     let e = c.put.ensures in
     let kept = put_keeps g.B.Parts.is_patch g.B.Parts.is_right g.B.Parts.done_set c.put.result t.parts c.put.new.self t.key.value.value c.args.finding (g.B.Parts.piece_of c.args.finding) t.taker.value.me.0.known t.taker.value.me.0.claims
-        e.done e.patch e.refused c.requires.right c.requires.claimed t.patch t.grows t.within in
+    e.done e.patch e.refused c.requires.right c.requires.claimed t.patch t.grows t.within in
     record { patch = kept.patch; narrow = t.narrow; grows = kept.grows; within = kept.within }
