@@ -5,11 +5,13 @@ use Rattle.std.proofs.Math.ListN.{get_or-append}
 use Rattle.std.proofs.Math.Seq.{get_or-append_seam}
 use Rattle.std.specs.Int.{bit_at}
 use Rattle.std.proofs.lemmas.Nat.Bits.{bit_at_or, bit_at-lt}
-use Rattle.atomic_table.specs.Table.{Me, rest}
+use mathlib.Core.Logic.{dite}
+use native.Mathlib.Decide.{ℕ_discrete}
+use Rattle.atomic_table.specs.Table.{Me, Step, rest}
 use Rattle.atomic_table.specs.declared.shared.Seat.{Seat}
 use Rattle.board_turn.specs.Masks.{mask, holder, Within}
 use Rattle.board_turn.specs.Views.{finding, claiming, looking, holding, giving}
-use Rattle.board_turn.specs.Plays.{Learns, Took}
+use Rattle.board_turn.specs.Plays.{Learns, Claimed, Took}
 use Rattle.board_turn.specs.Shown.{Finds, IsBusy}
 use Rattle.board_turn.specs.declared.view.View.{View}
 use Rattle.board_turn.proofs.Bits.{set_at, unset_at, or_has}
@@ -55,6 +57,37 @@ module _ {S K : Type 0} where
         grows = λ p. omega (arith, ap (λ x. bit_at x p) seen, bit_at_or m.0.seen (bit_or r bit) p);
         claims = λ p. omega (arith, ap (λ x. bit_at x p) claims, bit_at_or m.0.claims bit p);
       }
+
+  -- a claim that found the bit either way
+  pub record Tries (m n : Me S (View K)) (r bit : ℕ) : Type 0 where
+    pub leads : n.0.leads ≡ m.0.leads
+    pub number : n.0.number ≡ m.0.number
+    pub holds : n.0.holds ≡ m.0.holds
+    pub seen : n.0.seen ≡ bit_or m.0.seen (bit_or r bit)
+    pub slots : n.1 ≡ m.1
+    pub grows : Within n.0.claims (bit_or m.0.claims bit)
+    pub backs : Within m.0.backing m.0.claims → Within n.0.backing n.0.claims
+
+  pub tries : (st : Step S) (m n : Me S (View K)) (r : ℕ) → Claimed st m r n → Tries m n r st.first
+  tries st m n r t = dite (ℕ_discrete (bit_and r st.first) 0)
+      (λ unset. let e = (t.won unset).0 in record {
+        leads = ap (λ x. x.0.leads) e;
+        number = ap (λ x. x.0.number) e;
+        holds = ap (λ x. x.0.holds) e;
+        seen = ap (λ x. x.0.seen) e;
+        slots = ap (λ x. x.1) e;
+        grows = λ p. omega (arith, ap (λ x. bit_at x.0.claims p) e);
+        backs = λ b p. omega (arith, ap (λ x. bit_at x.0.claims p) e, ap (λ x. bit_at x.0.backing p) e, b p, bit_at_or m.0.claims st.first p);
+      })
+      (λ isset. let e = t.lost isset in record {
+        leads = ap (λ x. x.0.leads) e;
+        number = ap (λ x. x.0.number) e;
+        holds = ap (λ x. x.0.holds) e;
+        seen = ap (λ x. x.0.seen) e;
+        slots = ap (λ x. x.1) e;
+        grows = λ p. omega (arith, ap (λ x. bit_at x.0.claims p) e, bit_at_or m.0.claims st.first p);
+        backs = λ b p. omega (arith, ap (λ x. bit_at x.0.claims p) e, ap (λ x. bit_at x.0.backing p) e, b p);
+      })
 
   -- a look, and a try that lost
   pub busy_again : (old mid new : Seat S (View K)) (was seen : ℕ) → mid.me ≡ (looking old.me.0 was, old.me.1) → Learns old.me.0 was → new.me ≡ (looking mid.me.0 seen, mid.me.1) → Learns mid.me.0 seen

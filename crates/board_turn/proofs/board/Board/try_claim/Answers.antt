@@ -1,9 +1,11 @@
-use Rattle.std.proofs.Common.{ap, sym, ◌∙◌, rules, arith, bit_and}
+use Rattle.std.proofs.Common.{ap, sym, ◌∙◌, rules, arith, bit_and, bit_or}
 use Rattle.std.specs.Int.{bit_at}
 use Rattle.std.proofs.lemmas.Nat.{or_lt}
-use Rattle.board_turn.proofs.Bits.{set_at, Within-trans}
+use mathlib.Core.Option.{none}
+use Rattle.atomic_table.specs.Table.{step}
+use Rattle.board_turn.proofs.Bits.{set_at, narrowed}
 use Rattle.board_turn.proofs.Steps.{claims_one}
-use Rattle.board_turn.proofs.Seats.{missed, won}
+use Rattle.board_turn.proofs.Seats.{missed, won, tries}
 use Rattle.board_turn.proofs.board.Board.try_claim.Goals as goal
 
 pub returns-then-pass-bit-ne0-clause-lost : goal.returns-then-pass-bit-ne0-clause-lost
@@ -25,17 +27,22 @@ returns-then-found-bit-ne0-clause-lost g c = λ _.
 pub returns-then-found-bit-ne0-clause-found : goal.returns-then-found-bit-ne0-clause-found
 returns-then-found-bit-ne0-clause-found g c = (missed c.args.pass.now.seat.me c.fetch_or-found.new.seat.me _ _ c.args.piece c.piece_bit-bit.ensures.is (c.fetch_or-found.ensures.2.lost c.if-found-bit-ne0.true)).grows
 
-pub invariant_of-pass-clause-narrow : goal.invariant_of-pass-clause-narrow
-invariant_of-pass-clause-narrow g c =
-    let e = c.fetch_or-found.ensures.2.won c.if-found-bit-ne0.false in
-    omega (arith, ap (λ n. n.0.claims) e.0, or_lt 48 c.args.pass.now.seat.me.0.claims c.piece_bit-bit.result c.args.pass.now.narrow c.piece_bit-bit.ensures.narrow)
-
-pub invariant_of-pass-clause-backed : goal.invariant_of-pass-clause-backed
-invariant_of-pass-clause-backed g c =
+pub invariant_of-pass : goal.invariant_of-pass
+invariant_of-pass g c =
     let pass = c.args.pass.now in
-    let e = c.fetch_or-found.ensures.2.won c.if-found-bit-ne0.false in
-    let t = won pass.seat.me c.fetch_or-found.new.seat.me _ _ c.args.piece c.piece_bit-bit.ensures.is e.0 e.1 in
-    λ p. omega (arith, ap (λ n. bit_at n.0.backing p) e.0, pass.backed p, t.claims p)
+    let bit = c.piece_bit-bit in
+    let claims = pass.seat.me.0.claims in
+    let t = tries (step c.args.self.now.table.shared.table_id.slots 0 bit.result 0 none) pass.seat.me c.fetch_or-found.new.seat.me c.fetch_or-found.result c.fetch_or-found.ensures.2 in
+    record {
+      follows = t.leads ∙ pass.follows;
+      numbered = pass.numbered ∙ sym t.number;
+      in_range = pass.in_range;
+      narrow = narrowed _ _ t.grows (or_lt 48 claims bit.result pass.narrow bit.ensures.narrow);
+      has_found = ap (λ n. bit_or n (bit_or c.fetch_or-found.result bit.result)) pass.has_found ∙ sym t.seen;
+      backed = t.backs pass.backed;
+      empty = λ idle. t.slots ∙ pass.empty (sym t.holds ∙ idle);
+      carries = λ holds. t.slots ∙ pass.carries (sym t.holds ∙ holds);
+    }
 
 pub returns-clause-won : goal.returns-clause-won
 returns-clause-won g c = λ _.
