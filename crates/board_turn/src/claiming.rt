@@ -26,6 +26,7 @@ impl<B: Parts> Board<B> {
         ensures piece { IfSome result (λ p. p < self.now.pieces) }
         ensures claimed { IfSome result (Claims pass.old.seat pass.new.seat) }
         ensures least { IfSome result (λ p. (q : ℕ) → q < p → bit_at (found_claimed pass.new.seat) q ≡ 1) }
+        ensures grows { Within (found_claimed pass.old.seat) (found_claimed pass.new.seat) }
         ensures none { IfNone result ((q : ℕ) → q < self.now.pieces → bit_at (found_claimed pass.new.seat) q ≡ 1) }
         ensures none_claimed { IfNone result (claims_of pass.new.seat ≡ claims_of pass.old.seat) }
         ensures same { KeepsTurn pass.old.seat pass.new.seat }

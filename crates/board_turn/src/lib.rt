@@ -19,3 +19,6 @@ pub use refused::{Busy, PutRefused};
 pub use rule::Order;
 pub use turn::Turn;
 pub use view::View;
+
+#[cfg(test)]
+mod tests;

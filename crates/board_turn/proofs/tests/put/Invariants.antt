@@ -1,0 +1,10 @@
+use Rattle.std.proofs.Common.{◌≡◌}
+use Rattle.board_turn.specs.Shown.{IsOf, IsIdle, claims_of}
+use Rattle.board_turn.proofs.tests.put.Given as goal
+
+abbrev pub invariant-loop : goal.invariant-loop
+invariant-loop l = record {
+  own : IsOf l.board.table.shared.table_id l.board.key.value l.pass.seat;
+  idle : IsIdle l.pass.seat;
+  claims : claims_of l.pass.seat ≡ claims_of l.fn.pass.seat;
+}

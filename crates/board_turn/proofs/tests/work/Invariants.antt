@@ -1,0 +1,8 @@
+use Rattle.board_turn.specs.Shown.{IsOf, IsIdle}
+use Rattle.board_turn.proofs.tests.work.Given as goal
+
+abbrev pub invariant-loop : goal.invariant-loop
+invariant-loop l = record {
+  own : IsOf l.board.table.shared.table_id l.board.key.value l.pass.seat;
+  idle : IsIdle l.pass.seat;
+}
