@@ -112,6 +112,7 @@ module _ {B K : Type 0} (is_patch : B → K → Type 0) (done_set : B → ℕ) w
 
   -- a look, and a try that won: the parts are those that came out of the slot
   pub record Taken (old new : Me (Option B) (View K)) (was : ℕ) (parts : B) (key : K) : Type 0 where
+    pub shows : new.0.key ≡ Some key
     pub patch : is_patch parts key
     pub done : done_set parts ≡ new.0.known
     pub known : new.0.known ≡ was
@@ -125,6 +126,7 @@ module _ {B K : Type 0} (is_patch : B → K → Type 0) (done_set : B → ℕ) w
       let same : t.parts ≡ parts = let two : (0, Some t.parts) ∷ rest m.1 ≡ (0, slot) ∷ rest m.1 = sym (out_with mid m seen t) ∙ out in let head : List (ℕ × Option B) → Option B = λ l. (get_or {A = ℕ × Option B} l 0 (0, slot)).1 in let one : Some t.parts ≡ slot = ap head two in cc in
       let known : new.0.known ≡ mask seen = ap (λ x. x.0.known) last ∙ ap (λ x. x.0.known) t.seat in
       record {
+        shows = ap (λ x. x.0.key) last ∙ (ap (λ x. x.0.key) t.seat ∙ (ap (λ x. x.0.key) first ∙ shows));
         patch = subst (λ p. is_patch p key) same (t.patch key (ap (λ x. x.0.key) first ∙ shows));
         done = ap done_set (sym same) ∙ (t.done ∙ sym known);
         known = known ∙ word;

@@ -10,7 +10,6 @@ use crate::view::View;
 use atomic_table::{Refused, Seat, Table};
 use kmc_base::OutOfMemory;
 use std::alloc::Global;
-use std::snapshot::Snapshot;
 
 // The word of the claimed pieces.
 pub(crate) const CLAIMED: usize = 0;
@@ -25,11 +24,8 @@ type Shared<B> = Table<Option<B>, View<<B as Parts>::Key>, <B as Parts>::Key, Or
 /// A word of the turn is `holder * 2^48 + done mask`. No call waits for another.
 pub struct Board<B: Parts> {
     pub table: Table<Option<B>, View<B::Key>, B::Key, Order<B>, Global>,
-    /// What the parts are a patch under, for clauses.
-    pub key: Snapshot<B::Key>,
     /// How many pieces there are, from 1 to 48.
     pub pieces: u32,
-    ghost keyed: { key.value ≡ table.shared.key },
     ghost sized: { (table.shared.table_id.words ≡ 2) × (table.shared.table_id.slots ≡ 1) },
     ghost few: { (0 < pieces) × (pieces ≤ 48) },
 }
@@ -78,7 +74,7 @@ impl<B: Parts> Board<B> {
         requires passes { (0 < passes) × (passes ≤ 64) }
         requires patch { B.is_patch parts key }
         requires undone { B.done_set parts ≡ 0 }
-        ensures board { IfOk result (λ made. (made.0.key.value ≡ key) × (made.0.pieces ≡ pieces)) }
+        ensures board { IfOk result (λ made. (made.0.table.shared.key ≡ key) × (made.0.pieces ≡ pieces)) }
         ensures owner { IfOk result (λ made. IsOf made.0.table.shared.table_id key made.1.seat) }
         ensures opening { IfOk result (λ made. IsOpening made.1.seat × (next_number made.1.seat ≡ passes + 1)) }
         ensures count { IfOk result (λ made. vec_len made.2 ≡ passes) }
@@ -96,8 +92,7 @@ impl<B: Parts> Board<B> {
                 return Err((parts, OutOfMemory));
             }
         };
-        let key = Snapshot::of(&key);
-        let board = Board { table, key, pieces };
+        let board = Board { table, pieces };
         let mut owner = Owner { seat };
         board.deal_all(&mut owner, &mut made, passes);
         Ok((board, owner, made))
@@ -125,15 +120,15 @@ impl<B: Parts> Board<B> {
 
     // As many passes, behind none.
     fn deal_all(&self, owner: &mut Owner<B>, made: &mut Vec<Pass<B>>, passes: u32)
-        requires own { IsOf self.now.table.shared.table_id self.now.key.value owner.old.seat }
+        requires own { IsOf self.now.table.shared.table_id self.now.table.shared.key owner.old.seat }
         requires first { next_number owner.old.seat ≡ 1 }
         requires empty { made.old.items ≡ [] }
         requires room { (passes ≤ vec_capacity made.old) × (passes ≤ 64) }
-        ensures own { IsOf self.now.table.shared.table_id self.now.key.value owner.new.seat }
+        ensures own { IsOf self.now.table.shared.table_id self.now.table.shared.key owner.new.seat }
         ensures next { next_number owner.new.seat ≡ passes + 1 }
         ensures same { (claims_of owner.new.seat ≡ claims_of owner.old.seat) × (puts_of owner.new.seat ≡ puts_of owner.old.seat) × (joined_numbers owner.new.seat ≡ joined_numbers owner.old.seat) }
         ensures count { vec_len made.new ≡ passes }
-        ensures passes { All (λ pass. IsOf self.now.table.shared.table_id self.now.key.value pass.seat × IsNew pass.seat) made.new.items }
+        ensures passes { All (λ pass. IsOf self.now.table.shared.table_id self.now.table.shared.key pass.seat × IsNew pass.seat) made.new.items }
         ensures numbers { (k : ℕ) (d : _) → k < passes → number_of (slice_index_or made.new.items k d).seat ≡ k + 1 }
     {
         for dealt in 0..passes {
@@ -143,12 +138,12 @@ impl<B: Parts> Board<B> {
 
     // A new pass, which has the owner's next number.
     fn deal(&self, owner: &mut Owner<B>, number: u64) -> Pass<B>
-        requires own { IsOf self.now.table.shared.table_id self.now.key.value owner.old.seat }
+        requires own { IsOf self.now.table.shared.table_id self.now.table.shared.key owner.old.seat }
         requires number { (next_number owner.old.seat ≡ number) × (0 < number) × (number ≤ 64) }
-        ensures own { IsOf self.now.table.shared.table_id self.now.key.value owner.new.seat }
+        ensures own { IsOf self.now.table.shared.table_id self.now.table.shared.key owner.new.seat }
         ensures next { next_number owner.new.seat ≡ number + 1 }
         ensures same { (claims_of owner.new.seat ≡ claims_of owner.old.seat) × (puts_of owner.new.seat ≡ puts_of owner.old.seat) × (joined_numbers owner.new.seat ≡ joined_numbers owner.old.seat) }
-        ensures pass { IsOf self.now.table.shared.table_id self.now.key.value result.seat }
+        ensures pass { IsOf self.now.table.shared.table_id self.now.table.shared.key result.seat }
         ensures new { IsNew result.seat }
         ensures number { number_of result.seat ≡ number }
     {
@@ -162,18 +157,14 @@ impl<B: Parts> Board<B> {
 
     /// Takes the parts out of a board whose passes are all joined, and says what was claimed and done.
     pub fn close(self, owner: Owner<B>) -> (B, Report)
-        requires own { IsOf self.table.shared.table_id self.key.value owner.seat }
+        requires own { IsOf self.table.shared.table_id self.table.shared.key owner.seat }
         requires all { length (joined_numbers owner.seat) + 1 ≡ next_number owner.seat }
-        ensures patch { B.is_patch result.0 self.key.value }
+        ensures patch { B.is_patch result.0 self.table.shared.key }
         ensures done { result.1.done ≡ B.done_set result.0 }
         ensures puts { result.1.done ≡ puts_of owner.seat }
         ensures claimed { result.1.claimed ≡ claims_of owner.seat }
     {
-        let Board {
-            table,
-            key: _,
-            pieces: _,
-        } = self;
+        let Board { table, pieces: _ } = self;
         let Owner { seat } = owner;
         let mut closed = table.close_with(seat);
         let claimed = closed.word(CLAIMED);

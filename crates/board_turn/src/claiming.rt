@@ -21,8 +21,8 @@ fn piece_bit(piece: u32) -> u64
 impl<B: Parts> Board<B> {
     /// Claims the least piece that the pass hasn't found claimed. `None` where it has found every piece claimed.
     pub fn claim(&self, pass: &mut Pass<B>) -> Option<u32>
-        requires own { IsOf self.now.table.shared.table_id self.now.key.value pass.old.seat }
-        ensures own { IsOf self.now.table.shared.table_id self.now.key.value pass.new.seat }
+        requires own { IsOf self.now.table.shared.table_id self.now.table.shared.key pass.old.seat }
+        ensures own { IsOf self.now.table.shared.table_id self.now.table.shared.key pass.new.seat }
         ensures piece { IfSome result (λ p. p < self.now.pieces) }
         ensures claimed { IfSome result (Claims pass.old.seat pass.new.seat) }
         ensures least { IfSome result (λ p. (q : ℕ) → q < p → bit_at (found_claimed pass.new.seat) q ≡ 1) }
@@ -41,9 +41,9 @@ impl<B: Parts> Board<B> {
 
     // Whether the piece is the pass's now. It isn't where the pass has found it claimed.
     fn try_claim(&self, pass: &mut Pass<B>, piece: u32) -> bool
-        requires own { IsOf self.now.table.shared.table_id self.now.key.value pass.old.seat }
+        requires own { IsOf self.now.table.shared.table_id self.now.table.shared.key pass.old.seat }
         requires piece { piece < 48 }
-        ensures own { IsOf self.now.table.shared.table_id self.now.key.value pass.new.seat }
+        ensures own { IsOf self.now.table.shared.table_id self.now.table.shared.key pass.new.seat }
         ensures won { result ≡ true → Claims pass.old.seat pass.new.seat piece }
         ensures lost { result ≡ false → (bit_at (found_claimed pass.new.seat) piece ≡ 1) × (claims_of pass.new.seat ≡ claims_of pass.old.seat) }
         ensures found { Within (found_claimed pass.old.seat) (found_claimed pass.new.seat) }

@@ -10,10 +10,10 @@ use crate::rule::{Audit, Gather};
 impl<B: Parts> Owner<B> {
     /// Takes a pass back, with its number, its claims and its puts. It never claimed what the owner has.
     pub fn join(&mut self, board: &Board<B>, pass: Pass<B>)
-        requires own { IsOf board.now.table.shared.table_id board.now.key.value self.old.seat }
-        requires pass { IsOf board.now.table.shared.table_id board.now.key.value pass.seat }
+        requires own { IsOf board.now.table.shared.table_id board.now.table.shared.key self.old.seat }
+        requires pass { IsOf board.now.table.shared.table_id board.now.table.shared.key pass.seat }
         requires idle { IsIdle pass.seat }
-        ensures own { IsOf board.now.table.shared.table_id board.now.key.value self.new.seat }
+        ensures own { IsOf board.now.table.shared.table_id board.now.table.shared.key self.new.seat }
         ensures apart { bit_and (claims_of self.old.seat) (claims_of pass.seat) ≡ 0 }
         ensures claims { claims_of self.new.seat ≡ bit_or (claims_of self.old.seat) (claims_of pass.seat) }
         ensures puts { puts_of self.new.seat ≡ bit_or (puts_of self.old.seat) (puts_of pass.seat) }

@@ -123,10 +123,10 @@ fn a_put_waits_for_the_turn(rt: HostRuntime) -> Result<(), Fail> {
 
 // Puts the finding, however often another pass has the turn.
 fn put(board: &Board<Tally>, pass: &mut Pass<Tally>, piece: u32)
-    requires own { IsOf board.now.table.shared.table_id board.now.key.value pass.old.seat }
+    requires own { IsOf board.now.table.shared.table_id board.now.table.shared.key pass.old.seat }
     requires idle { IsIdle pass.old.seat }
     requires claimed { (piece < 5) × (bit_at (claims_of pass.old.seat) piece ≡ 1) }
-    ensures own { IsOf board.now.table.shared.table_id board.now.key.value pass.new.seat }
+    ensures own { IsOf board.now.table.shared.table_id board.now.table.shared.key pass.new.seat }
     ensures idle { IsIdle pass.new.seat }
 {
     for _ in 0..u64::MAX {
@@ -138,10 +138,10 @@ fn put(board: &Board<Tally>, pass: &mut Pass<Tally>, piece: u32)
 
 // Claims pieces and puts them until each is claimed.
 fn work(board: &Board<Tally>, pass: &mut Pass<Tally>)
-    requires own { IsOf board.now.table.shared.table_id board.now.key.value pass.old.seat }
+    requires own { IsOf board.now.table.shared.table_id board.now.table.shared.key pass.old.seat }
     requires five { board.now.pieces ≡ 5 }
     requires idle { IsIdle pass.old.seat }
-    ensures own { IsOf board.now.table.shared.table_id board.now.key.value pass.new.seat }
+    ensures own { IsOf board.now.table.shared.table_id board.now.table.shared.key pass.new.seat }
     ensures idle { IsIdle pass.new.seat }
 {
     for _ in 0..5 {
@@ -155,8 +155,8 @@ fn work(board: &Board<Tally>, pass: &mut Pass<Tally>)
 // Each pass works in a thread of its own.
 fn run<R: Threads + Sync>(rt: &R, board: &Board<Tally>, passes: &mut [Pass<Tally>])
     requires five { board.now.pieces ≡ 5 }
-    requires passes { All (λ pass. IsOf board.now.table.shared.table_id board.now.key.value pass.seat × IsIdle pass.seat) passes.old }
-    ensures passes { All (λ pass. IsOf board.now.table.shared.table_id board.now.key.value pass.seat × IsIdle pass.seat) passes.new }
+    requires passes { All (λ pass. IsOf board.now.table.shared.table_id board.now.table.shared.key pass.seat × IsIdle pass.seat) passes.old }
+    ensures passes { All (λ pass. IsOf board.now.table.shared.table_id board.now.table.shared.key pass.seat × IsIdle pass.seat) passes.new }
     ensures len { length passes.new ≡ length passes.old }
 {
     thread::for_each_mut(

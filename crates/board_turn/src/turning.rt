@@ -22,11 +22,11 @@ const PARTS: usize = 0;
 impl<B: Parts> Board<B> {
     /// Takes the turn, where no pass has it. `Busy` is by one look at the word, or by a look and a try.
     pub fn take(&self, pass: &mut Pass<B>) -> Result<Turn<B>, Busy>
-        requires own { IsOf self.now.table.shared.table_id self.now.key.value pass.old.seat }
+        requires own { IsOf self.now.table.shared.table_id self.now.table.shared.key pass.old.seat }
         requires idle { IsIdle pass.old.seat }
-        ensures own { IsOf self.now.table.shared.table_id self.now.key.value pass.new.seat }
+        ensures own { IsOf self.now.table.shared.table_id self.now.table.shared.key pass.new.seat }
         ensures taken { IfOk result (λ turn. IsTaking pass.old.seat pass.new.seat turn.taker.value) }
-        ensures key { IfOk result (λ turn. turn.key.value.value ≡ self.now.key.value) }
+        ensures shown { IfOk result (λ turn. IsOf self.now.table.shared.table_id self.now.table.shared.key turn.taker.value) }
         ensures parts { IfOk result (λ turn. B.done_set turn.parts ≡ turn.taker.value.me.0.known) }
         ensures busy { IfErr result (λ busy. IsBusy pass.old.seat pass.new.seat busy.was busy.seen) }
         ensures puts { puts_of pass.new.seat ≡ puts_of pass.old.seat }
@@ -45,17 +45,16 @@ impl<B: Parts> Board<B> {
         let parts = shared.exchange(&mut pass.seat, PARTS, None).unwrap();
         Ok(Turn {
             parts,
-            key: Snapshot::of(&self.key),
             taker: Snapshot::of(&pass.seat),
         })
     }
 
     /// Puts the parts home and frees the turn. The pieces that became done join the puts of the pass.
     pub fn give(&self, pass: &mut Pass<B>, turn: Turn<B>)
-        requires own { IsOf self.now.table.shared.table_id self.now.key.value pass.old.seat }
+        requires own { IsOf self.now.table.shared.table_id self.now.table.shared.key pass.old.seat }
         requires taken { IsTaker pass.old.seat turn.taker.value }
-        requires key { turn.key.value.value ≡ self.now.key.value }
-        ensures own { IsOf self.now.table.shared.table_id self.now.key.value pass.new.seat }
+        requires shown { IsOf self.now.table.shared.table_id self.now.table.shared.key turn.taker.value }
+        ensures own { IsOf self.now.table.shared.table_id self.now.table.shared.key pass.new.seat }
         ensures idle { IsIdle pass.new.seat }
         ensures had { puts_of pass.old.seat ≡ bit_and (claims_of pass.old.seat) turn.taker.value.me.0.known }
         ensures puts { puts_of pass.new.seat ≡ bit_and (claims_of pass.old.seat) (B.done_set turn.parts) }
@@ -64,7 +63,6 @@ impl<B: Parts> Board<B> {
     {
         let Turn {
             parts,
-            key: _,
             taker: _,
         } = turn;
         let done = parts.done();
@@ -80,11 +78,11 @@ impl<B: Parts> Board<B> {
         pass: &mut Pass<B>,
         finding: B::Finding,
     ) -> Result<(), PutRefused<B::Finding>>
-        requires own { IsOf self.now.table.shared.table_id self.now.key.value pass.old.seat }
+        requires own { IsOf self.now.table.shared.table_id self.now.table.shared.key pass.old.seat }
         requires idle { IsIdle pass.old.seat }
-        requires right { B.is_right self.now.key.value finding }
+        requires right { B.is_right self.now.table.shared.key finding }
         requires claimed { bit_at (claims_of pass.old.seat) (B.piece_of finding) ≡ 1 }
-        ensures own { IsOf self.now.table.shared.table_id self.now.key.value pass.new.seat }
+        ensures own { IsOf self.now.table.shared.table_id self.now.table.shared.key pass.new.seat }
         ensures idle { IsIdle pass.new.seat }
         ensures put { OnOk result (puts_of pass.new.seat ≡ bit_or (puts_of pass.old.seat) (2 ^ B.piece_of finding)) }
         ensures has { OnOk result (bit_at (puts_of pass.new.seat) (B.piece_of finding) ≡ 1) }

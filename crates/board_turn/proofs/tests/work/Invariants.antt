@@ -3,6 +3,6 @@ use Rattle.board_turn.proofs.tests.work.Given as goal
 
 abbrev pub invariant-loop : goal.invariant-loop
 invariant-loop l = record {
-  own : IsOf l.board.table.shared.table_id l.board.key.value l.pass.seat;
+  own : IsOf l.board.table.shared.table_id l.board.table.shared.key l.pass.seat;
   idle : IsIdle l.pass.seat;
 }

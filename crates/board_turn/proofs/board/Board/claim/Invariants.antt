@@ -6,7 +6,7 @@ use Rattle.board_turn.proofs.board.Board.claim.Given as goal
 
 abbrev pub invariant-loop-piece : goal.invariant-loop-piece
 invariant-loop-piece g l = record {
-  own : IsOf l.self.table.shared.table_id l.self.key.value l.pass.seat;
+  own : IsOf l.self.table.shared.table_id l.self.table.shared.key l.pass.seat;
   claims : claims_of l.pass.seat ≡ claims_of l.fn.pass.seat;
   found : (q : ℕ) → q < l.piece → bit_at (found_claimed l.pass.seat) q ≡ 1;
   grows : Within (found_claimed l.fn.pass.seat) (found_claimed l.pass.seat);

@@ -14,7 +14,7 @@ returns-clause-patch g c =
     let key = c.args.self.table.shared.key in
     let left = closes g.B.Parts.is_patch g.B.Parts.done_set key owner.seat.id owner.seat.me.0 _ _ owner.leads c.requires.all c.close_with-closed.ensures.values.2 in
     let end = ends g.B.Parts.is_patch g.B.Parts.done_set key owner.seat.me.0 _ _ c.take-slot.result c.in-Some.parts c.word-claimed.result left c.take-slot.ensures.value c.in-Some.is c.word-claimed.ensures in
-    subst (g.B.Parts.is_patch c.in-Some.parts) (sym c.args.self.keyed) end.patch
+    end.patch
 
 pub returns-clause-puts : goal.returns-clause-puts
 returns-clause-puts g c =

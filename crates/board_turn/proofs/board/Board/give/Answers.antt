@@ -16,14 +16,15 @@ store-requires g c =
     let was = c.requires.taken in
     let me = c.exchange-empty.new.seat.me in
     let e = c.exchange-empty.ensures.3 in
+    let key = c.args.self.now.table.shared.key in
     let done = c.done-done.ensures in (
       search rules,
       search rules,
-      gives_turn g.B.Parts.is_patch g.B.Parts.done_set _ _ _ me turn.parts turn.key.value.value c.done-done.result
+      gives_turn g.B.Parts.is_patch g.B.Parts.done_set _ _ _ me turn.parts key c.done-done.result
           (ap (λ m. m.1) e ∙ ap (λ l. (0, Some turn.parts) ∷ rest l) (pass.carries was.holds))
           (ap (λ m. m.0.holds) e ∙ was.holds)
-          (ap (λ m. m.0.key) e ∙ (c.requires.own.1 ∙ ap Some (sym c.requires.key)))
-          turn.patch
+          (ap (λ m. m.0.key) e ∙ c.requires.own.1)
+          (turn.patch key c.requires.shown.1)
           (sym done)
           (omega (arith, done, narrowed _ _ turn.within (or_lt 48 known claims turn.narrow.0 turn.narrow.1)))
           (λ p. omega (arith, ap (λ m. bit_at m.0.known p) e, ap (λ n. bit_at n p) was.known, turn.grows p, ap (λ n. bit_at n p) done))

@@ -1,7 +1,8 @@
-use Rattle.std.proofs.Common.{◌*◌, ◌+◌, ap, subst, sym, ◌∙◌, Some, rules, arith, bit_or}
+use Rattle.std.proofs.Common.{◌*◌, ◌+◌, ap, subst, sym, ◌∙◌, Some, is_some, rules, arith, bit_or}
 use Rattle.std.specs.Int.{bit_at}
 use Rattle.std.proofs.lemmas.Nat.Bits.{bit_at_or}
 use Rattle.board_turn.proofs.Steps.{looks, takes_turn}
+use Rattle.board_turn.proofs.Puts.{on_key}
 use Rattle.board_turn.proofs.Seats.{busy_again, out_with, taken}
 use Rattle.board_turn.proofs.board.Board.take.Goals as goal
 
@@ -34,11 +35,13 @@ exchange-requires g c = let t = c.compare_exchange-seen.ensures.2.won c.if-seen-
 pub invariant_of-result : goal.invariant_of-result
 invariant_of-result g c =
     let pass = c.args.pass.now in
-    let shown = c.of-2.result.value in
-    let t = taken g.B.Parts.is_patch g.B.Parts.done_set pass.seat.me c.load-was.new.seat.me c.compare_exchange-seen.new.seat.me shown.me c.load-was.result c.compare_exchange-seen.result c.unwrap-parts.result c.of.result.value.value
-    c.exchange.result c.load-was.ensures.2.seat (c.compare_exchange-seen.ensures.2.won c.if-seen-was.false) c.if-seen-was.false (search rules) (search rules) (search rules) (search rules) c.if-was-ne0.false in
+    let shown = c.of.result.value in
+    let key = c.args.self.now.table.shared.key in
+    let t = taken g.B.Parts.is_patch g.B.Parts.done_set pass.seat.me c.load-was.new.seat.me c.compare_exchange-seen.new.seat.me shown.me c.load-was.result c.compare_exchange-seen.result c.unwrap-parts.result key
+        c.exchange.result c.load-was.ensures.2.seat (c.compare_exchange-seen.ensures.2.won c.if-seen-was.false) c.if-seen-was.false (search rules) (search rules) (search rules) (search rules) c.if-was-ne0.false in
     record {
-      patch = t.patch;
+      shows = ap is_some t.shows;
+      patch = on_key (λ k. g.B.Parts.is_patch c.unwrap-parts.result k) shown.me.0.key key t.shows t.patch;
       narrow = (t.narrow, omega (arith, t.claims, pass.narrow));
       grows = λ p. omega (arith, ap (λ n. bit_at n p) t.done);
       within = λ p. omega (arith, ap (λ n. bit_at n p) t.done, bit_at_or shown.me.0.known shown.me.0.claims p);

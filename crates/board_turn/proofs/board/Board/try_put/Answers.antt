@@ -10,7 +10,7 @@ returns-in-Ok-answer-clause-put g c =
     let claims = c.args.pass.now.seat.me.0.claims in
     let piece = g.B.Parts.piece_of c.args.finding in
     put_joins claims turn.taker.value.me.0.known (g.B.Parts.done_set c.put-answer.new.self.parts) c.args.pass.now.seat.me.0.puts c.give.new.pass.seat.me.0.puts piece
-    (cc (t.puts, e.had, t.same.claims, c.put-answer.ensures.same.1)) (c.in-Ok-answer.ensures.done ∙ ap (λ n. bit_or n (2 ^ piece)) t.parts) (cc (e.puts, t.same.claims)) c.requires.claimed
+    (cc (t.puts, e.had, t.same.claims, c.put-answer.ensures.same)) (c.in-Ok-answer.ensures.done ∙ ap (λ n. bit_or n (2 ^ piece)) t.parts) (cc (e.puts, t.same.claims)) c.requires.claimed
 
 pub returns-in-Ok-answer-clause-has : goal.returns-in-Ok-answer-clause-has
 returns-in-Ok-answer-clause-has g c =
