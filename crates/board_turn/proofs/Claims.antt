@@ -1,16 +1,14 @@
 -- Points 1, 2 and 6 of the rule over the kinds of step.
-use Rattle.std.proofs.Common.{◌≡◌, ◌≢◌, ◌⊎◌, ℕ, zero, suc, ◌+◌, ◌*◌, ◌^◌, ◌<◌, ◌≤◌, min, max, List, [], ◌∷◌, ◌++◌, length, set, Bool, true, false, Some, None, sym, refl, ap, subst, ◌∙◌, ⊎_elim, arith, bit_and, bit_or, length-append, true≢false}
+use Rattle.std.proofs.Common.{◌≡◌, ◌≢◌, ℕ, zero, suc, ◌+◌, ◌^◌, ◌<◌, ◌≤◌, min, List, [], ◌∷◌, ◌++◌, length, set, true, false, sym, refl, ap, subst, ◌∙◌, arith, bit_and, bit_or, length-append, true≢false}
 use Rattle.std.proofs.lemmas.Bool.{false_from_ne_true}
-use mathlib.Core.Logic.{dite}
 use mathlib.Core.Option.{some, some-injective, some-ne-none}
-use native.Mathlib.Decide.{ℕ_discrete}
 use lib.ListN.{get_elem?}
 use Rattle.std.specs.Int.{bit_at}
 use Rattle.std.proofs.lemmas.Nat.{or_lt}
-use Rattle.std.proofs.lemmas.Nat.Bits.{bit_at_and, bit_at_or, bit_at-lt, bit_at-zero, same_from_bits}
+use Rattle.std.proofs.lemmas.Nat.Bits.{bit_at_or, bit_at-lt, bit_at-zero, same_from_bits}
 use Rattle.atomic_table.proofs.Lists.{set_else}
 use Rattle.board_turn.specs.Masks.{Within}
-use Rattle.board_turn.specs.Sums.{total, below, yes_no, only, positive}
+use Rattle.board_turn.specs.Sums.{total, yes_no, positive}
 use Rattle.board_turn.specs.Views.{spent, first_owner, dealing, new_pass, joining, finding, claiming}
 use Rattle.board_turn.specs.Rule.{leads_as, IsClaimer, Claiming}
 use Rattle.board_turn.specs.declared.view.View.{View}

@@ -1,6 +1,6 @@
 -- What a pass shows after a step.
-use Rattle.std.proofs.Common.{◌≡◌, ◌≢◌, ℕ, ◌+◌, ◌*◌, ◌%◌, ◌^◌, ◌<◌, ◌≤◌, max, List, [], ◌∷◌, ◌++◌, length, true, false, Option, Some, None, refl, ap, sym, subst, inr, ◌∙◌, arith, bit_and, bit_or, append_assoc, length-append, get_or}
-use Rattle.std.specs.Prelude.{All, slice_index_or}
+use Rattle.std.proofs.Common.{◌≡◌, ◌≢◌, ℕ, ◌^◌, ◌<◌, List, [], ◌∷◌, ◌++◌, length, false, Option, Some, None, ap, sym, subst, inr, ◌∙◌, arith, bit_and, bit_or, append_assoc, length-append, get_or}
+use Rattle.std.specs.Prelude.{All}
 use Rattle.std.proofs.Math.ListN.{get_or-append}
 use Rattle.std.proofs.Math.Seq.{get_or-append_seam}
 use Rattle.std.specs.Int.{bit_at}
@@ -10,11 +10,11 @@ use native.Mathlib.Decide.{ℕ_discrete}
 use Rattle.atomic_table.specs.Table.{Me, Step, rest}
 use Rattle.atomic_table.specs.declared.shared.Seat.{Seat}
 use Rattle.board_turn.specs.Masks.{mask, holder, Within}
-use Rattle.board_turn.specs.Views.{finding, claiming, looking, holding, giving}
+use Rattle.board_turn.specs.Views.{finding, claiming, looking}
 use Rattle.board_turn.specs.Plays.{Learns, Claimed, Took}
-use Rattle.board_turn.specs.Shown.{Finds, IsBusy}
+use Rattle.board_turn.specs.Shown.{IsBusy}
 use Rattle.board_turn.specs.declared.view.View.{View}
-use Rattle.board_turn.proofs.Bits.{set_at, unset_at, or_has}
+use Rattle.board_turn.proofs.Bits.{unset_at, or_has}
 
 all_front : {A : Type 0} (P : A → Type 0) (xs : List A) (x : A) → All P (xs ++ x ∷ []) → All P xs
 all_front P xs x all k d h = subst P (get_or-append xs (x ∷ []) d k h) (all k d (omega (arith, length-append xs (x ∷ []))))

@@ -1,5 +1,5 @@
 -- Each kind of step keeps the rule, and tells what its play says.
-use Rattle.std.proofs.Common.{◌≡◌, ◌≢◌, ℕ, zero, suc, ◌+◌, ◌*◌, ◌^◌, ◌<◌, ◌≤◌, List, [], ◌∷◌, ◌++◌, length, get_or, set, Bool, true, false, Option, Some, None, sym, refl, ap, subst, ◌∙◌, arith, bit_and, bit_or, eqb, length-set, get_or-set_same, get_or-set_other}
+use Rattle.std.proofs.Common.{◌≡◌, ℕ, ◌+◌, ◌*◌, ◌^◌, ◌<◌, ◌≤◌, List, [], ◌∷◌, length, get_or, set, Bool, true, false, Option, Some, None, sym, refl, ap, subst, ◌∙◌, arith, bit_and, bit_or, eqb, length-set, get_or-set_same, get_or-set_other}
 use mathlib.Core.Logic.{dite}
 use mathlib.Core.Option as m
 use native.Mathlib.Decide.{ℕ_discrete}
@@ -11,8 +11,8 @@ use Rattle.atomic_table.proofs.Lists.{set_here, set_else, set_again, exchanged}
 use Rattle.board_turn.specs.Masks.{mask, holder, Within}
 use Rattle.board_turn.specs.Sums.{total, only}
 use Rattle.board_turn.specs.Views.{spent, first_owner, dealing, new_pass, joining, finding, claiming, looking, holding, giving}
-use Rattle.board_turn.specs.Rule.{counted, holds_as, IsClaimer, Claiming, IsPutter, IsHome, Turning, Orderly}
-use Rattle.board_turn.specs.Plays.{Learns, Claimed, Looked, Took, Tried, Gave, Audited}
+use Rattle.board_turn.specs.Rule.{counted, holds_as, IsClaimer, Claiming, Turning, Orderly}
+use Rattle.board_turn.specs.Plays.{Learns, Claimed, Looked, Tried, Gave, Audited}
 use Rattle.board_turn.specs.declared.view.View.{View}
 use Rattle.board_turn.proofs.Sums.{total-none, total_less, only-same, only-other, below-once}
 use Rattle.board_turn.proofs.Bits.{pow-Within, set_bit, apart_less, and_within}

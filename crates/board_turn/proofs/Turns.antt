@@ -1,19 +1,18 @@
 -- Points 3, 4 and 5 of the rule over the kinds of step.
-use Rattle.std.proofs.Common.{◌≡◌, ◌≢◌, ◌⊎◌, ℕ, zero, suc, ◌+◌, ◌*◌, ◌^◌, ◌<◌, ◌≤◌, min, max, List, [], ◌∷◌, ◌++◌, length, set, Bool, true, false, Option, Some, None, sym, refl, ap, subst, ◌∙◌, arith, bit_and, bit_or, true≢false}
+use Rattle.std.proofs.Common.{◌≡◌, ◌≢◌, ℕ, zero, suc, ◌+◌, ◌*◌, ◌<◌, ◌≤◌, List, [], ◌∷◌, ◌++◌, set, Bool, true, false, Option, Some, sym, refl, ap, subst, ◌∙◌, arith, bit_and, bit_or, true≢false}
 use Rattle.std.specs.Prelude.{All, slice_index_or}
 use mathlib.Core.Logic.{dite}
 use mathlib.Core.Option as m
 use native.Mathlib.Decide.{ℕ_discrete}
 use lib.ListN.{get_elem?}
 use Rattle.std.specs.Int.{bit_at}
-use Rattle.std.proofs.lemmas.Bool.{false_from_ne_true}
 use Rattle.std.proofs.lemmas.List.Elements.{All-append, All-nil}
 use Rattle.std.proofs.lemmas.Nat.Bits.{bit_at_and, bit_at_or, same_from_bits}
-use Rattle.atomic_table.proofs.Lists.{set_here, set_else}
+use Rattle.atomic_table.proofs.Lists.{set_else}
 use Rattle.board_turn.specs.Masks.{mask, holder, Within}
-use Rattle.board_turn.specs.Sums.{total, only}
+use Rattle.board_turn.specs.Sums.{only}
 use Rattle.board_turn.specs.Views.{spent, first_owner, dealing, new_pass, joining, finding, claiming, looking, holding, giving}
-use Rattle.board_turn.specs.Rule.{counted, holds_as, IsClaimer, Claiming, IsPutter, IsHome, Turning}
+use Rattle.board_turn.specs.Rule.{counted, holds_as, Claiming, IsPutter, IsHome, Turning}
 use Rattle.board_turn.specs.declared.view.View.{View}
 use Rattle.board_turn.proofs.Sums.{total-append, total-set, term_le, terms_le, each_set, each_snoc, only-same, only-other}
 use Rattle.board_turn.proofs.Bits.{Within-trans, apart_bits}

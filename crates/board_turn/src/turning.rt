@@ -61,10 +61,7 @@ impl<B: Parts> Board<B> {
         ensures found { found_words pass.new.seat ≡ found_words pass.old.seat }
         ensures same { KeepsClaims pass.old.seat pass.new.seat }
     {
-        let Turn {
-            parts,
-            taker: _,
-        } = turn;
+        let Turn { parts, taker: _ } = turn;
         let done = parts.done();
         let shared = &self.table.shared;
         let empty = shared.exchange(&mut pass.seat, PARTS, Some(parts));

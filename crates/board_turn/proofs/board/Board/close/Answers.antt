@@ -1,4 +1,4 @@
-use Rattle.std.proofs.Common.{◌∙◌, sym, subst, rules}
+use Rattle.std.proofs.Common.{◌∙◌}
 use Rattle.board_turn.proofs.Steps.{closes, ends, never_empty}
 use Rattle.board_turn.proofs.board.Board.close.Goals as goal
 

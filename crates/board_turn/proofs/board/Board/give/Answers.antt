@@ -1,4 +1,4 @@
-use Rattle.std.proofs.Common.{◌∷◌, Some, ap, sym, subst, ◌∙◌, rules, arith, bit_or}
+use Rattle.std.proofs.Common.{◌∷◌, Some, ap, sym, ◌∙◌, rules, arith}
 use Rattle.std.specs.Int.{bit_at}
 use Rattle.std.proofs.lemmas.Nat.{or_lt}
 use Rattle.std.proofs.lemmas.Nat.Bits.{bit_at_or}

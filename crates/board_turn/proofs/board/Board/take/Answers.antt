@@ -1,4 +1,4 @@
-use Rattle.std.proofs.Common.{◌*◌, ◌+◌, ap, subst, sym, ◌∙◌, Some, is_some, rules, arith, bit_or}
+use Rattle.std.proofs.Common.{◌*◌, ◌+◌, ap, sym, ◌∙◌, Some, is_some, rules, arith}
 use Rattle.std.specs.Int.{bit_at}
 use Rattle.std.proofs.lemmas.Nat.Bits.{bit_at_or}
 use Rattle.board_turn.proofs.Steps.{looks, takes_turn}
@@ -38,7 +38,7 @@ invariant_of-result g c =
     let shown = c.of.result.value in
     let key = c.args.self.now.table.shared.key in
     let t = taken g.B.Parts.is_patch g.B.Parts.done_set pass.seat.me c.load-was.new.seat.me c.compare_exchange-seen.new.seat.me shown.me c.load-was.result c.compare_exchange-seen.result c.unwrap-parts.result key
-        c.exchange.result c.load-was.ensures.2.seat (c.compare_exchange-seen.ensures.2.won c.if-seen-was.false) c.if-seen-was.false (search rules) (search rules) (search rules) (search rules) c.if-was-ne0.false in
+    c.exchange.result c.load-was.ensures.2.seat (c.compare_exchange-seen.ensures.2.won c.if-seen-was.false) c.if-seen-was.false (search rules) (search rules) (search rules) (search rules) c.if-was-ne0.false in
     record {
       shows = ap is_some t.shows;
       patch = on_key (λ k. g.B.Parts.is_patch c.unwrap-parts.result k) shown.me.0.key key t.shows t.patch;

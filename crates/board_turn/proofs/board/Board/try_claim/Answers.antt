@@ -1,5 +1,4 @@
 use Rattle.std.proofs.Common.{ap, sym, ◌∙◌, rules, arith, bit_and, bit_or}
-use Rattle.std.specs.Int.{bit_at}
 use Rattle.std.proofs.lemmas.Nat.{or_lt}
 use mathlib.Core.Option.{none}
 use Rattle.atomic_table.specs.Table.{step}
