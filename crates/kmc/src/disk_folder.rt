@@ -1,0 +1,192 @@
+ghost use Rattle.std.specs.Prelude.{◌≡◌, None};
+ghost use Rattle.kmc_base.specs.FaultCounts.{reads_of, writes_of};
+ghost use Rattle.kmc_base.specs.Faults.{Rose, NoneFell};
+
+use crate::transfer::{read_whole, write_whole};
+use kmc_base::{Failed, FaultCounts, FileId, Folder, LoadFault, OutId};
+use std::alloc::Global;
+use std::fs::{File, OpenOptions};
+use std::io::ErrorKind;
+use std::rt::Files;
+
+/// The working directory as a folder. It counts its faults from 0, up to the end of 64 bits, and
+/// tells nothing of what its files hold.
+#[derive(Drop)]
+pub struct DiskFolder<R: Files> {
+    runtime: R,
+    outputs: OpenOutputs<R::File>,
+    faults: FaultCounts,
+}
+
+/// The outputs that are open for writing, each at its end. One that failed is closed: its next
+/// piece opens it again at its end.
+#[derive(Drop)]
+struct OpenOutputs<F> {
+    history: Option<F>,
+    procstat: Option<F>,
+    specnum: Option<F>,
+}
+
+impl<F: Drop> OpenOutputs<F> {
+    fn none() -> Self {
+        OpenOutputs {
+            history: None,
+            procstat: None,
+            specnum: None,
+        }
+    }
+
+    fn take(&mut self, out: OutId) -> Option<F> {
+        match out {
+            OutId::History => self.history.take(),
+            OutId::Procstat => self.procstat.take(),
+            OutId::Specnum => self.specnum.take(),
+        }
+    }
+
+    fn keep(&mut self, out: OutId, file: F) {
+        match out {
+            OutId::History => self.history = Some(file),
+            OutId::Procstat => self.procstat = Some(file),
+            OutId::Specnum => self.specnum = Some(file),
+        }
+    }
+}
+
+fn name_of_input(file: FileId) -> &'static str {
+    match file {
+        FileId::Simulation => "simulation_input.dat",
+        FileId::Lattice => "lattice_input.dat",
+        FileId::Energetics => "energetics_input.dat",
+        FileId::Mechanism => "mechanism_input.dat",
+        FileId::State => "state_input.dat",
+    }
+}
+
+fn name_of_output(out: OutId) -> &'static str {
+    match out {
+        OutId::History => "history_output.txt",
+        OutId::Procstat => "procstat_output.txt",
+        OutId::Specnum => "specnum_output.txt",
+    }
+}
+
+fn load_input<R: Files>(
+    runtime: &R,
+    alloc: Global,
+    name: &str,
+    max: usize,
+) -> Result<Vec<u8>, LoadFault> {
+    match File::open(runtime, name) {
+        Ok(mut file) => read_whole(alloc, &mut file, max),
+        Err(error) if error.kind() == ErrorKind::NotFound => Err(LoadFault::Absent),
+        Err(_) => Err(LoadFault::Failed),
+    }
+}
+
+/// Opens an output for writing at its end, and makes it where it is not there.
+fn open_at_end<R: Files>(runtime: &R, name: &str) -> Result<R::File, Failed> {
+    let mut options = OpenOptions::new();
+    options.append(true).create(true);
+    options.open(runtime, name).map_err(|_| Failed)
+}
+
+/// Adds a piece at the end of an output, which may be open already, and gives it back open.
+fn add_at_end<R: Files>(
+    runtime: &R,
+    open: Option<R::File>,
+    name: &str,
+    piece: &[u8],
+) -> Result<R::File, Failed> {
+    let mut file = match open {
+        Some(file) => file,
+        None => open_at_end(runtime, name)?,
+    };
+    write_whole(&mut file, piece)?;
+    Ok(file)
+}
+
+/// The counts after one more fault of reading a file.
+fn after_read_fault(mut faults: FaultCounts, file: FileId) -> FaultCounts
+    ensures rose { Rose (reads_of faults file) (reads_of result file) }
+    ensures reads { NoneFell (reads_of faults) (reads_of result) }
+    ensures writes { result.writes ≡ faults.writes }
+{
+    faults.read_failed(file);
+    faults
+}
+
+/// The counts after one more fault of an output.
+fn after_write_fault(mut faults: FaultCounts, out: OutId) -> FaultCounts
+    ensures rose { Rose (writes_of faults out) (writes_of result out) }
+    ensures writes { NoneFell (writes_of faults) (writes_of result) }
+    ensures reads { result.reads ≡ faults.reads }
+{
+    faults.write_failed(out);
+    faults
+}
+
+impl<R: Files> DiskFolder<R> {
+    /// The working directory of a runtime. Nothing of it has failed yet.
+    pub fn new(runtime: R) -> Self
+        ensures read_faults { (file : _) → ⟦<DiskFolder<R> as Folder>⟧.read_faults result file ≡ 0 }
+        ensures write_faults { (out : _) → ⟦<DiskFolder<R> as Folder>⟧.write_faults result out ≡ 0 }
+        ensures files { ⟦<DiskFolder<R> as Folder>⟧.files result ≡ None }
+        ensures outs { ⟦<DiskFolder<R> as Folder>⟧.outs result ≡ None }
+    {
+        DiskFolder {
+            runtime,
+            outputs: OpenOutputs::none(),
+            faults: FaultCounts::none(),
+        }
+    }
+}
+
+impl<R: Files> Folder for DiskFolder<R> {
+    ghost use Rattle.std.specs.Prelude.{None};
+    ghost use Rattle.kmc_base.specs.FaultCounts.{reads_of, writes_of};
+
+    ghost read_faults = { λ d. reads_of d.faults };
+
+    ghost write_faults = { λ d. writes_of d.faults };
+
+    ghost files = { λ _. None };
+
+    ghost outs = { λ _. None };
+
+    fn load(&mut self, alloc: Global, file: FileId, max: usize) -> Result<Vec<u8>, LoadFault> {
+        let loaded = load_input(&self.runtime, alloc, name_of_input(file), max);
+        if let Err(LoadFault::Failed) = &loaded {
+            self.faults = after_read_fault(self.faults, file);
+        }
+        loaded
+    }
+
+    fn begin(&mut self, out: OutId) -> Result<(), Failed> {
+        let _ = self.outputs.take(out);
+        match File::create(&self.runtime, name_of_output(out)) {
+            Ok(file) => {
+                self.outputs.keep(out, file);
+                Ok(())
+            }
+            Err(_) => {
+                self.faults = after_write_fault(self.faults, out);
+                Err(Failed)
+            }
+        }
+    }
+
+    fn append(&mut self, out: OutId, piece: &[u8]) -> Result<(), Failed> {
+        let open = self.outputs.take(out);
+        match add_at_end(&self.runtime, open, name_of_output(out), piece) {
+            Ok(file) => {
+                self.outputs.keep(out, file);
+                Ok(())
+            }
+            Err(Failed) => {
+                self.faults = after_write_fault(self.faults, out);
+                Err(Failed)
+            }
+        }
+    }
+}

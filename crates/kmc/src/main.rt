@@ -1,0 +1,51 @@
+//! The program `kmc`: a run over the working directory and the standard output.
+//!
+//! `DiskFolder` and `ScreenSink` keep the promises of the folder and the screen that a run is
+//! given. What the system's files and terminal hold is trusted, and told by neither. The run itself
+//! is `run_program` of `kmc_run`.
+#![tactic(auto)]
+
+mod disk_folder;
+mod screen_sink;
+#[cfg(test)]
+mod tests;
+mod transfer;
+
+use disk_folder::DiskFolder;
+use kmc_base::OpenGate;
+use kmc_run::{Status, run_program};
+use screen_sink::ScreenSink;
+use std::io::ErrorKind;
+use std::process::ExitCode;
+use std::rt::Env;
+use std::{env, io};
+
+/// The words after the program's name.
+fn words(rt: &(impl Env + AllocGlobal)) -> io::Result<Vec<String>> {
+    let words = env::args(rt)?.skip(1).collect(rt.alloc())?;
+    Ok(words)
+}
+
+/// The status where the words could not be read: one of them is no text, or there was no memory.
+fn without_words(error: &io::Error) -> Status {
+    if error.kind() == ErrorKind::OutOfMemory {
+        Status::OutOfMemory
+    } else {
+        Status::BadWords
+    }
+}
+
+fn main(rt: HostRuntime) -> ExitCode {
+    let status = match words(&rt) {
+        Ok(words) => run_program(
+            &rt,
+            rt.alloc(),
+            &words,
+            &mut DiskFolder::new(&rt),
+            &mut ScreenSink::new(&rt),
+            &OpenGate,
+        ),
+        Err(error) => without_words(&error),
+    };
+    ExitCode::from(status.number())
+}

@@ -1,0 +1,215 @@
+-- What holds of the trajectory of a sound deck at each event that it comes to.
+use Rattle.std.proofs.Common.{◌≡◌, ℕ, zero, suc, ◌^◌, ◌<◌, ◌≤◌, Bool, true, false, not, cond, eqb, ℤ, List, [], ◌∷◌, Option, None, Some, length, map, refl, sym, ap, subst, ◌∙◌, arith, ◌&&◌}
+use Rattle.std.proofs.lemmas.Bool.{eqb-true}
+use Rattle.std.proofs.lemmas.List.{length-replicate, length-set}
+use Rattle.std.specs.List.{AllByRecursion}
+use Rattle.std.specs.Option.{option_map}
+use Rattle.std.specs.Prelude.{option_and_then, IfSome, IsSomeAnd, ◌-◌}
+use Rattle.fixed_math.specs.WaitingTime.{IsLater, time_of}
+use Rattle.kmc_base.specs.Entries.{IsRising, codes_of, chosen, entry_at, first_of_two, kept_or, least, moment_at, moment_of, same_rate, is_fired, comes_before}
+use Rattle.kmc_base.specs.declared.entry.Entry.{Entry}
+use Rattle.kmc_base.specs.declared.moment.When.{When}
+use Rattle.kmc_base.specs.declared.moment.When.TheVariants.{At, Never}
+use Rattle.named_draws.specs.Draw.{draw}
+use Rattle.kmc_core.proofs.Instances.{AreCodes, codes-all, codes-rising}
+use Rattle.fixed_math.proofs.TimeLemmas.{time_of-later}
+use Rattle.kmc_core.specs.Deck.{IsSound}
+use Rattle.kmc_core.specs.OneSite.{opening, process_of, site_of, system_of, trajectory_of}
+use Rattle.kmc_core.specs.Run.{ClosedRun, IsClosedAt, IsOpenAt}
+use Rattle.kmc_core.specs.Trajectory.{Snapshot, System, fired, fresh, renewed, start, trajectory}
+use Rattle.kmc_core.specs.declared.deck.PlainDeck.{PlainDeck}
+
+-- a moment that is not past the end of time
+abbrev pub IsInTime : When → Type 0
+IsInTime (At t) = t ≤ 10 ^ 30
+IsInTime Never = Unit {0}
+
+-- the entry of an instance of some steps on some sites, in time
+pub record IsEntryOf (steps sites : ℕ) (e : Entry) : Type 0 where
+  pub process : process_of e.code < steps
+  pub site : site_of e.code < sites
+  pub when : IsInTime e.when
+
+in_time : (now : ℕ) (w : When) → IsLater now w → IsInTime w
+in_time now (At t) later = later.1
+in_time now Never later = tt
+
+if_some-weaker : {X : Type 0} (o : Option X) (P Q : X → Type 0) → ((x : X) → P x → Q x) → IfSome o P → IfSome o Q
+if_some-weaker None P Q f p = tt
+if_some-weaker (Some x) P Q f p = f x p
+
+ap2 : {X Y Z : Type 0} (f : X → Y → Z) {a b : X} {c d : Y} → a ≡ b → c ≡ d → f a c ≡ f b d
+ap2 f p q i = f (p i) (q i)
+
+-- an entry that is found is one of those in the list, and has the code
+pub found-one : (P : Entry → Type 0) (code : ℕ) (es : List Entry) → AllByRecursion P es → IfSome (entry_at code es) (λ e. P e × (e.code ≡ code))
+found-one P code [] all = tt
+found-one P code (e ∷ es) all =
+    elim (eqb e.code code) as (λ b. eqb e.code code ≡ b → IfSome (cond b (Some e) (entry_at code es)) (λ x. P x × (x.code ≡ code))) [
+      | true ↦ λ same. (all.0, eqb-true e.code code same)
+      | false ↦ λ other. found-one P code es all.1
+    ] refl
+
+-- what holds of both holds of the one that comes first
+first-either : (Q : ℕ × ℕ → Type 0) (a b : Option (ℕ × ℕ)) → IfSome a Q → IfSome b Q → IfSome (first_of_two a b) Q
+first-either Q None b p q = q
+first-either Q (Some a) None p q = p
+first-either Q (Some a) (Some b) p q =
+    elim (comes_before b a) as (λ t. IfSome (cond t (Some b) (Some a)) Q) [ true ↦ q | false ↦ p ]
+
+-- the moment of an entry of the list
+abbrev pub IsMomentOf : (Entry → Type 0) → ℕ × ℕ → Type 0
+IsMomentOf P first = (e : Entry) × P e × (e.when ≡ At first.0) × (e.code ≡ first.1)
+
+moment-one : (P : Entry → Type 0) (e : Entry) → P e → IfSome (moment_of e) (IsMomentOf P)
+moment-one P e p =
+    elim e.when as (λ w. e.when ≡ w → IfSome (moment_at w e.code) (IsMomentOf P)) [
+      | At t ↦ λ at. (e, p, at, refl)
+      | Never ↦ λ never. tt
+    ] refl
+
+-- the first moment is that of an entry in the list
+pub least-one : (P : Entry → Type 0) (es : List Entry) → AllByRecursion P es → IfSome (least es) (IsMomentOf P)
+least-one P [] all = tt
+least-one P (e ∷ es) all = first-either (IsMomentOf P) (moment_of e) (least es) (moment-one P e all.0) (least-one P es all.1)
+
+-- what holds of the old entry, if there is one, and of the fresh one, holds of the chosen one
+chosen-either : (Q : Entry → Type 0) (fired : Option ℕ) (old : Option Entry) (new : Entry) → IfSome old Q → Q new → Q (kept_or fired old new)
+chosen-either Q fired None new p q = q
+chosen-either Q fired (Some e) new p q =
+    elim (same_rate e.lg new.lg && not (is_fired fired new.code)) as (λ t. Q (cond t e new)) [ true ↦ p | false ↦ q ]
+
+-- an entry keeps its code
+chosen-code : (old : List Entry) (fired : Option ℕ) (new : Entry) → (chosen old fired new).code ≡ new.code
+chosen-code old fired new =
+    chosen-either (λ e. e.code ≡ new.code) fired (entry_at new.code old) new
+    (if_some-weaker (entry_at new.code old) (λ e. Unit {0} × (e.code ≡ new.code)) (λ e. e.code ≡ new.code) (λ e q. q.1) (found-one (λ e. Unit {0}) new.code old (all-unit old))) refl
+  where
+    all-unit : (es : List Entry) → AllByRecursion (λ e. Unit {0}) es
+    all-unit [] = tt
+    all-unit (e ∷ es) = (tt, all-unit es)
+
+-- the renewed entries have the codes of the instances
+pub codes-renewed : (seed event : ℕ) (old : List Entry) (first : ℕ × ℕ) (offers : List (ℕ × Option ℤ)) →
+    codes_of (renewed seed event old first offers) ≡ map (λ (o : ℕ × Option ℤ). o.0) offers
+codes-renewed seed event old first [] = refl
+codes-renewed seed event old first (o ∷ offers) =
+    ap2 (λ (c : ℕ) (cs : List ℕ). c ∷ cs) (chosen-code old (Some first.1) (fresh seed event first.0 o)) (codes-renewed seed event old first offers)
+
+-- the renewed entries are in time, where the old ones are
+renewed-in_time : (seed event : ℕ) (old : List Entry) (first : ℕ × ℕ) (offers : List (ℕ × Option ℤ)) → AllByRecursion (λ e. IsInTime e.when) old →
+    AllByRecursion (λ e. IsInTime e.when) (renewed seed event old first offers)
+renewed-in_time seed event old first [] all = tt
+renewed-in_time seed event old first (o ∷ offers) all = (
+  chosen-either (λ e. IsInTime e.when) (Some first.1) (entry_at o.0 old) (fresh seed event first.0 o)
+      (if_some-weaker (entry_at o.0 old) (λ e. IsInTime e.when × (e.code ≡ o.0)) (λ e. IsInTime e.when) (λ e q. q.0) (found-one (λ e. IsInTime e.when) o.0 old all))
+      (in_time first.0 (time_of o.1 (draw seed event o.0) first.0) (time_of-later o.1 (draw seed event o.0) first.0)),
+  renewed-in_time seed event old first offers all,
+)
+
+-- the event before one that the trajectory comes to, and what fired there
+pub record CameFrom {S : Type 0} (system : System S) (seed : ℕ) (first : S) (n : ℕ) (now : Snapshot S) : Type 0 where
+  pub old : Snapshot S
+  pub before : trajectory system seed first n ≡ Some old
+  pub fires : ℕ × ℕ
+  pub least : least old.entries ≡ Some fires
+  pub is : fired system seed (suc n) old fires ≡ now
+
+pub came_from : {S : Type 0} (system : System S) (seed : ℕ) (first : S) (n : ℕ) (now : Snapshot S) → trajectory system seed first (suc n) ≡ Some now → CameFrom system seed first n now
+came_from {S} system seed first n now e =
+    elim (trajectory system seed first n) as (λ t. trajectory system seed first n ≡ t → option_and_then (λ old. option_map (fired system seed (suc n) old) (least old.entries)) t ≡ Some now → CameFrom system seed first n now) [
+      | None ↦ λ b h. cc
+      | Some old ↦ λ b h. elim (least old.entries) as (λ l. least old.entries ≡ l → option_map (fired system seed (suc n) old) l ≡ Some now → CameFrom system seed first n now) [
+        | None ↦ λ m g. cc
+        | Some fires ↦ λ m g. record { old = old; before = b; fires = fires; least = m; is = cc }
+      ] refl h
+    ] refl e
+
+-- what holds at each event
+pub record IsWell (deck : PlainDeck) (s : Snapshot (List Bool)) : Type 0 where
+  pub sites : length s.state ≡ deck.sites
+  pub time : s.time ≤ 10 ^ 30
+  pub rising : IsRising (codes_of s.entries)
+  pub codes : AllByRecursion (AreCodes 0 (length deck.steps) deck.sites) (codes_of s.entries)
+  pub times : AllByRecursion (λ e. IsInTime e.when) s.entries
+
+-- the entries of a state with the deck's number of sites
+well-renewed : (deck : PlainDeck) → IsSound deck → (event : ℕ) (old : List Entry) (first : ℕ × ℕ) (sites : List Bool) →
+    length sites ≡ deck.sites → first.0 ≤ 10 ^ 30 → AllByRecursion (λ e. IsInTime e.when) old →
+    IsWell deck (record { state = sites; time = first.0; entries = renewed deck.seed event old first ((system_of deck).offers sites) })
+well-renewed deck sound event old first sites len time all =
+    let few : length sites ≤ 2 ^ 20 = omega (arith, sound.few_sites) in
+    let codes = codes-renewed deck.seed event old first ((system_of deck).offers sites) in
+    record {
+      sites = len;
+      time = time;
+      rising = subst IsRising (sym codes) (codes-rising deck.temperature sites 0 deck.steps few);
+      codes = subst (AllByRecursion (AreCodes 0 (length deck.steps) deck.sites)) (sym codes)
+          (subst (λ (n : ℕ). AllByRecursion (AreCodes 0 (length deck.steps) n) (map (λ (o : ℕ × Option ℤ). o.0) ((system_of deck).offers sites))) len (codes-all deck.temperature sites 0 deck.steps few));
+      times = renewed-in_time deck.seed event old first ((system_of deck).offers sites) all;
+    }
+
+-- the first moment is in time, and its code names a step and a site of the deck
+pub record IsFirstOf (deck : PlainDeck) (first : ℕ × ℕ) : Type 0 where
+  pub time : first.0 ≤ 10 ^ 30
+  pub code : AreCodes 0 (length deck.steps) deck.sites first.1
+
+all-both : (P : ℕ → Type 0) (Q : Entry → Type 0) (es : List Entry) → AllByRecursion P (codes_of es) → AllByRecursion Q es → AllByRecursion (λ e. P e.code × Q e) es
+all-both P Q [] p q = tt
+all-both P Q (e ∷ es) p q = ((p.0, q.0), all-both P Q es p.1 q.1)
+
+pub first-well : (deck : PlainDeck) (s : Snapshot (List Bool)) (first : ℕ × ℕ) → IsWell deck s → least s.entries ≡ Some first → IsFirstOf deck first
+first-well deck s first well is =
+    let P : Entry → Type 0 = λ e. AreCodes 0 (length deck.steps) deck.sites e.code × IsInTime e.when in
+    let one : IsMomentOf P first = subst (λ (o : Option (ℕ × ℕ)). IfSome o (IsMomentOf P)) is (least-one P s.entries (all-both (AreCodes 0 (length deck.steps) deck.sites) (λ e. IsInTime e.when) s.entries well.codes well.times)) in
+    record {
+      time = subst IsInTime one.2 one.1.1;
+      code = subst (AreCodes 0 (length deck.steps) deck.sites) one.3 one.1.0;
+    }
+
+-- the state after an event has as many sites
+pub fires-length : (deck : PlainDeck) (sites : List Bool) (code : ℕ) → length ((system_of deck).fires sites code) ≡ length sites
+fires-length deck sites code = simp length-set
+
+pub well-fired : (deck : PlainDeck) → IsSound deck → (event : ℕ) (old : Snapshot (List Bool)) (first : ℕ × ℕ) → IsWell deck old → least old.entries ≡ Some first →
+    IsWell deck (fired (system_of deck) deck.seed event old first)
+well-fired deck sound event old first well is =
+    well-renewed deck sound event old.entries first ((system_of deck).fires old.state first.1) (fires-length deck old.state first.1 ∙ well.sites) (first-well deck old first well is).time well.times
+
+pub well-start : (deck : PlainDeck) → IsSound deck → IsWell deck (start (system_of deck) deck.seed (opening deck))
+well-start deck sound = well-renewed deck sound 0 [] (0, 0) (opening deck) (simp length-replicate) (omega arith) tt
+
+-- each event that the trajectory comes to is well
+pub well-at : (deck : PlainDeck) → IsSound deck → (n : ℕ) (s : Snapshot (List Bool)) → trajectory_of deck n ≡ Some s → IsWell deck s
+well-at deck sound zero s e = let is : start (system_of deck) deck.seed (opening deck) ≡ s = cc in subst (IsWell deck) is (well-start deck sound)
+well-at deck sound (suc n) s e =
+    let came = came_from (system_of deck) deck.seed (opening deck) n s e in
+    subst (IsWell deck) came.is (well-fired deck sound (suc n) came.old came.fires (well-at deck sound n came.old came.before) came.least)
+
+-- what a closed run is at is well
+pub closed-well : (deck : PlainDeck) (event : ℕ) (s : Snapshot (List Bool)) → IsClosedAt deck event s → IsWell deck s
+closed-well deck event s closed = well-at deck closed.sound event s closed.state
+
+-- what comes first in a closed run comes first among its entries
+pub came_first : (deck : PlainDeck) (event : ℕ) (s : Snapshot (List Bool)) (first : ℕ × ℕ) (run : ClosedRun) → record { deck = deck; event = event } ≡ run →
+    IsClosedAt deck event s → IsSomeAnd (trajectory_of run.deck run.event) (λ t. least t.entries ≡ Some first) → least s.entries ≡ Some first
+came_first deck event s first run is closed h =
+    subst (λ (o : Option (Snapshot (List Bool))). IsSomeAnd o (λ t. least t.entries ≡ Some first)) closed.state
+    (subst (λ (r : ClosedRun). IsSomeAnd (trajectory_of r.deck r.event) (λ t. least t.entries ≡ Some first)) (sym is) h)
+
+-- an open run holds the old entries, in order; what has fired is in time; and it has the deck's number of sites
+pub record IsOpenWell (deck : PlainDeck) (first : ℕ × ℕ) (sites : List Bool) (entries : List Entry) : Type 0 where
+  pub time : first.0 ≤ 10 ^ 30
+  pub rising : IsRising (codes_of entries)
+  pub few : length sites ≤ 2 ^ 20
+
+pub open-well : (deck : PlainDeck) (event : ℕ) (first : ℕ × ℕ) (sites : List Bool) (entries : List Entry) (after : Option (List Entry)) →
+    IsOpenAt deck event first sites entries after → IsOpenWell deck first sites entries
+open-well deck event first sites entries after o =
+    let well = closed-well deck (event - 1) o.old o.closed in
+    let came : least o.old.entries ≡ Some first = ap least o.old_entries ∙ o.came_first in
+    record {
+      time = (first-well deck o.old first well came).time;
+      rising = subst (λ (es : List Entry). IsRising (codes_of es)) o.old_entries well.rising;
+      few = omega (arith, ap length o.fired_sites, fires-length deck o.old.state first.1, well.sites, o.closed.sound.few_sites);
+    }

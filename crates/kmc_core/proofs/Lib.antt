@@ -1,0 +1,4 @@
+pub mod Facts
+pub mod Instances
+pub mod Merging
+pub mod Rising

@@ -1,0 +1,5 @@
+use Rattle.kmc_core.proofs.Facts.{closed-well}
+use Rattle.kmc_core.proofs.closed.Closed.time.Goals as goal
+
+pub returns-clause-range : goal.returns-clause-range
+returns-clause-range c = (closed-well c.self.inside.deck c.self.inside.event _ c.self.invariant).time

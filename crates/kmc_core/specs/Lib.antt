@@ -1,0 +1,7 @@
+pub mod Deck
+pub mod Firing
+pub mod Offers
+pub mod OneSite
+pub mod Rate
+pub mod Run
+pub mod Trajectory

@@ -1,0 +1,133 @@
+ghost use Rattle.std.specs.Prelude.{◌≡◌, ◌^◌, ◌≤◌, IfOk, IfErr, IsSomeAnd, count_by, replicate, false};
+ghost use Rattle.kmc_base.specs.Entries.{least as least_of};
+ghost use Rattle.kmc_core.specs.Deck.{IsSound};
+ghost use Rattle.kmc_core.specs.OneSite.{opening as opening_of, system_of, trajectory_of};
+ghost use Rattle.kmc_core.specs.Trajectory.{start};
+
+use crate::deck::PlainDeck;
+use crate::fired::Fired;
+use crate::stop::Stop;
+use crate::unclosed::Unclosed;
+use crate::{least, listing, renewal};
+use kmc_base::{Entry, OutOfMemory};
+use named_draws::Draws;
+use std::alloc::Global;
+use std::marker::Model;
+
+/// A run at an event, with every instance listed: the state of the deck's trajectory at this event.
+///
+/// A contract sees it as its deck and the number of the event, which determine all else.
+#[derive(Debug, Drop)]
+pub struct Closed {
+    pub(crate) deck: PlainDeck,
+    pub(crate) event: u64,
+    pub(crate) time: u128,
+    pub(crate) sites: Vec<bool>,
+    pub(crate) entries: Vec<Entry>,
+}
+
+impl Model for Closed {
+    ghost use Rattle.kmc_core.specs.Run.{ClosedRun};
+
+    ghost Value = { ClosedRun };
+
+    ghost use Rattle.kmc_core.specs.Run.{IsClosedAt};
+
+    ghost view = { λ c. record { deck = c.deck; event = c.event } };
+
+    ghost invariant = { λ c. IsClosedAt c.deck c.event (record { state = c.sites.items; time = c.time; entries = c.entries.items }) };
+}
+
+/// The vacant lattice.
+fn vacant(alloc: Global, sites: u32) -> Result<Vec<bool>, OutOfMemory>
+    ensures { IfOk result (λ v. v.items ≡ replicate sites false) }
+{
+    Ok(vec![in alloc; false; sites as usize]?)
+}
+
+/// The sites and the entries of a deck at its start.
+fn opening(alloc: Global, deck: &PlainDeck) -> Result<(Vec<bool>, Vec<Entry>), OutOfMemory>
+    requires { IsSound deck.now }
+    ensures sites { IfOk result (λ r. r.0.items ≡ opening_of deck.now) }
+    ensures entries { IfOk result (λ r. r.1.items ≡ (start (system_of deck.now) deck.now.seed (opening_of deck.now)).entries) }
+{
+    let sites = vacant(alloc, deck.sites)?;
+    let offers = listing::instances(alloc, deck, &sites)?;
+    let mut draws = Draws::new(deck.seed);
+    let entries = renewal::renew(alloc, &[], (0, 0), &offers, &mut draws, 0)?;
+    Ok((sites, entries))
+}
+
+impl Closed {
+    ghost use Rattle.kmc_core.specs.Firing.{Fires};
+
+    /// The run of a sound deck at event 0: the vacant lattice at time 0. A refusal hands the deck back.
+    pub fn start(alloc: Global, deck: PlainDeck) -> Result<Closed, (PlainDeck, OutOfMemory)>
+        requires { IsSound deck }
+        ensures ok { IfOk result (λ closed. closed ≡ record { deck = deck; event = 0 }) }
+        ensures err { IfErr result (λ refused. refused.0 ≡ deck) }
+    {
+        match opening(alloc, &deck) {
+            Ok((sites, entries)) => Ok(Closed {
+                deck,
+                event: 0,
+                time: 0,
+                sites,
+                entries,
+            }),
+            Err(error) => Err((deck, error)),
+        }
+    }
+
+    /// The number of the event.
+    pub fn event(&self) -> u64
+        ensures value { result ≡ self.now.event }
+        ensures allowed { result ≤ self.now.deck.max_steps }
+    {
+        self.event
+    }
+
+    /// The time of the event, in as.
+    pub fn time(&self) -> u128
+        ensures value { IsSomeAnd (trajectory_of self.now.deck self.now.event) (λ s. result ≡ s.time) }
+        ensures range { result ≤ 10 ^ 30 }
+    {
+        self.time
+    }
+
+    /// The time and the code of the instance that fires next, the least by (time, code). `None` where
+    /// no instance has a time.
+    pub fn least(&self) -> Option<(u128, u128)>
+        ensures { IsSomeAnd (trajectory_of self.now.deck self.now.event) (λ s. result ≡ least_of s.entries) }
+    {
+        least::least(&self.entries)
+    }
+
+    /// The number of adsorbates.
+    pub fn count(&self) -> u64
+        ensures { IsSomeAnd (trajectory_of self.now.deck self.now.event) (λ s. result ≡ count_by (λ holds. holds) s.state) }
+    {
+        self.sites.iter().filter(|holds| **holds).count() as u64
+    }
+
+    /// The deck of the run.
+    pub fn deck(&self) -> &PlainDeck
+        ensures value { result.now ≡ self.now.deck }
+        ensures sound { IsSound result.now }
+    {
+        &self.deck
+    }
+
+    /// Fires the instance that comes first, or ends the run where it stops. It takes no memory.
+    pub fn fire(self) -> Fired
+        ensures { Fires self result }
+    {
+        if self.event == self.deck.max_steps {
+            return Fired::Ended(self, Stop::Steps);
+        }
+        match self.least() {
+            None => Fired::Ended(self, Stop::Still),
+            Some(first) => Fired::Next(Unclosed::after(self, first)),
+        }
+    }
+}

@@ -1,0 +1,25 @@
+//! The core: what a state of the lattice offers, and the trajectory from one event to the next by
+//! rescanning the whole lattice.
+//!
+//! A `Closed` is the state of its deck's trajectory at its event, by its type; an `Unclosed` has
+//! fired the next event and cannot be fired itself. The crate stands on `kmc_base` for entries and the
+//! rule by which they keep their times, on `fixed_math` for waiting times and on `named_draws` for
+//! random numbers.
+#![tactic(auto)]
+
+mod closed;
+mod deck;
+mod fired;
+mod least;
+mod listing;
+mod renewal;
+mod stop;
+#[cfg(test)]
+mod tests;
+mod unclosed;
+
+pub use closed::Closed;
+pub use deck::{PlainDeck, PlainStep};
+pub use fired::Fired;
+pub use stop::Stop;
+pub use unclosed::{Unclosed, Undone};

@@ -1,0 +1,12 @@
+pub mod DigitLemmas
+pub mod DriveLemmas
+pub mod EventLemmas
+pub mod PlainLines
+pub mod PlainNumbers
+pub mod PlainPhrases
+pub mod PlainReads
+pub mod PlainRows
+pub mod PlainSteps
+pub mod SampleLemmas
+pub mod StepLemmas
+pub mod WriteLemmas

@@ -1,0 +1,90 @@
+-- What the program may answer, and what it leaves in the outputs.
+use Rattle.std.specs.Prelude.{◌≡◌, ℕ, [], ◌∷◌, Bool, true, false, List, Option, None, Some, Result, Ok, Err, IfOk, IfSome, codes, if◌then◌else◌}
+use Rattle.kmc_base.specs.Faults.{Rose}
+use Rattle.kmc_base.specs.Files.{Files}
+use Rattle.kmc_base.specs.Outs.{Outs}
+use Rattle.kmc_base.specs.declared.ids.FileId.{FileId}
+use Rattle.kmc_base.specs.declared.ids.OutId.{OutId}
+use Rattle.kmc_core.specs.declared.deck.PlainDeck.{PlainDeck}
+use Rattle.kmc_run.specs.PlainDecks.{deck_of_files}
+use Rattle.kmc_run.specs.PlainText.{same_word}
+use Rattle.kmc_run.specs.Samples.{writes_of}
+use Rattle.kmc_run.specs.Writes as writing
+use Rattle.kmc_run.specs.declared.drive_fault.DriveFault.TheVariants.{WriteFault as WriteFailed, OutOfMemory as NoMemory}
+use Rattle.kmc_run.specs.declared.status.Fault.{Fault}
+use Rattle.kmc_run.specs.declared.status.Status.{Status}
+use Rattle.kmc_run.specs.declared.status.Status.TheVariants.{Done, BadWords, Refused, ReadFault, WriteFault, ScreenFault, OutOfMemory}
+
+-- the words that the program takes: the one word `run`
+abbrev pub are_right : List (List ℕ) → Bool
+are_right (word ∷ []) = same_word word (codes "run")
+are_right [] = false
+are_right (word ∷ next ∷ others) = false
+
+-- the fault of a file that is not of a form that is built: kind 0, at the file as a whole
+abbrev pub not_built : FileId → Fault
+not_built file = record { file = file; line = 0; kind = 0 }
+
+-- A fault of reading or writing has a cause: the count of faults of that file or output has risen.
+abbrev pub HasCause : (reads_then reads_now : FileId → ℕ) (writes_then writes_now : OutId → ℕ) → Status → Type 0
+HasCause reads_then reads_now writes_then writes_now (ReadFault file) = Rose (reads_then file) (reads_now file)
+HasCause reads_then reads_now writes_then writes_now (WriteFault out) = Rose (writes_then out) (writes_now out)
+HasCause reads_then reads_now writes_then writes_now Done = Unit {0}
+HasCause reads_then reads_now writes_then writes_now BadWords = Unit {0}
+HasCause reads_then reads_now writes_then writes_now (Refused fault) = Unit {0}
+HasCause reads_then reads_now writes_then writes_now ScreenFault = Unit {0}
+HasCause reads_then reads_now writes_then writes_now OutOfMemory = Unit {0}
+
+-- What a run over right words may answer, by what its files stand for. A deck is run: the answer is Done, or a fault of
+-- reading or writing, or want of memory. Files that are no deck are refused, unless reading failed or memory was short.
+abbrev pub MayAnswer : Result PlainDeck FileId → Status → Type 0
+MayAnswer (Ok deck) Done = Unit {0}
+MayAnswer (Ok deck) (ReadFault file) = Unit {0}
+MayAnswer (Ok deck) (WriteFault out) = Unit {0}
+MayAnswer (Ok deck) OutOfMemory = Unit {0}
+MayAnswer (Ok deck) BadWords = ⊥
+MayAnswer (Ok deck) (Refused fault) = ⊥
+MayAnswer (Ok deck) ScreenFault = ⊥
+MayAnswer (Err file) (Refused fault) = fault ≡ not_built file
+MayAnswer (Err file) (ReadFault other) = Unit {0}
+MayAnswer (Err file) OutOfMemory = Unit {0}
+MayAnswer (Err file) Done = ⊥
+MayAnswer (Err file) BadWords = ⊥
+MayAnswer (Err file) (WriteFault out) = ⊥
+MayAnswer (Err file) ScreenFault = ⊥
+
+-- What a run of a deck leaves in the outputs. Done: all its writes are done. A fault of writing, or want of memory: those
+-- before the one that failed, or the first of them. Any other answer: nothing is written.
+abbrev pub LeavesOuts : PlainDeck → Status → Option Outs → Option Outs → Type 0
+LeavesOuts deck Done before after = writing.Done (writes_of deck) before after
+LeavesOuts deck (WriteFault out) before after = writing.Ended (writes_of deck) (WriteFailed out) before after
+LeavesOuts deck OutOfMemory before after = writing.Ended (writes_of deck) NoMemory before after
+LeavesOuts deck BadWords before after = after ≡ before
+LeavesOuts deck (Refused fault) before after = after ≡ before
+LeavesOuts deck (ReadFault file) before after = after ≡ before
+LeavesOuts deck ScreenFault before after = after ≡ before
+
+-- An answer that says that nothing was run leaves the outputs as they were, whatever the folder tells.
+abbrev pub KeepsOuts : Status → Option Outs → Option Outs → Type 0
+KeepsOuts BadWords before after = after ≡ before
+KeepsOuts (Refused fault) before after = after ≡ before
+KeepsOuts (ReadFault file) before after = after ≡ before
+KeepsOuts Done before after = Unit {0}
+KeepsOuts (WriteFault out) before after = Unit {0}
+KeepsOuts ScreenFault before after = Unit {0}
+KeepsOuts OutOfMemory before after = Unit {0}
+
+-- what is left where the files are no deck: nothing is written
+abbrev pub Leaves : Result PlainDeck FileId → Status → Option Outs → Option Outs → Type 0
+Leaves (Ok deck) status before after = LeavesOuts deck status before after
+Leaves (Err file) status before after = after ≡ before
+
+-- what a load that gave no text answers
+abbrev pub IsLoadFault : Status → Type 0
+IsLoadFault (ReadFault file) = Unit {0}
+IsLoadFault OutOfMemory = Unit {0}
+IsLoadFault Done = ⊥
+IsLoadFault BadWords = ⊥
+IsLoadFault (Refused fault) = ⊥
+IsLoadFault (WriteFault out) = ⊥
+IsLoadFault ScreenFault = ⊥

@@ -1,0 +1,13 @@
+pub mod Answers
+pub mod PlainDecks
+pub mod PlainLattice
+pub mod PlainMechanism
+pub mod PlainSimulation
+pub mod PlainText
+pub mod PlainViews
+pub mod Samples
+pub mod Specnum
+pub mod Statuses
+pub mod Summaries
+pub mod Texts
+pub mod Writes

@@ -1,0 +1,103 @@
+ghost use Rattle.std.specs.Prelude.{◌≡◌, ◌≤◌, ℕ, pos, ◌++◌, ◌∷◌, [], List, IfOk, IfErr, OnOk, IsSomeAnd, Some};
+ghost use Rattle.std.specs.List.{flat_map};
+ghost use Rattle.kmc_core.specs.Deck.{IsSound};
+ghost use Rattle.kmc_core.specs.OneSite.{trajectory_of};
+ghost use Rattle.kmc_core.specs.Run.{stop_of};
+ghost use Rattle.kmc_run.specs.Samples.{adsorbates, events_from, writes_at, writes_of};
+ghost use Rattle.kmc_run.specs.Summaries.{IsSummary};
+ghost use Rattle.kmc_run.specs.Writes.{Done, Ended, HasCause, OnlyWrites};
+
+use crate::drive_fault::DriveFault;
+use crate::summary::Summary;
+use crate::writing;
+use kmc_base::{Folder, Gate, Items, OutOfMemory};
+use kmc_core::{Closed, Fired, PlainDeck, Stop, Unclosed};
+use std::alloc::Global;
+use std::marker::Sync;
+use std::thread::Threads;
+
+/// The run at an event that has fired, with its instances listed.
+fn close(alloc: Global, mut next: Unclosed) -> Result<Closed, OutOfMemory>
+    ensures { IfOk result (λ closed. closed ≡ record { deck = next.deck; event = next.event }) }
+{
+    next.rescan(alloc)?;
+    match next.close() {
+        Ok(closed) => Ok(closed),
+        Err(_) => unreachable!(),
+    }
+}
+
+/// Runs from an event to the last one, and writes at each.
+fn run_events<F: Folder>(
+    alloc: Global,
+    start: Closed,
+    folder: &mut F,
+) -> Result<(Closed, Stop), DriveFault>
+    ensures deck { IfOk result (λ last. last.0.deck ≡ start.deck) }
+    ensures stop { IfOk result (λ last. stop_of start.deck last.0.event ≡ Some last.1) }
+    ensures last { IfOk result (λ last. ((es : List ℕ) × (events_from start.deck start.event ≡ es ++ last.0.event ∷ []))) }
+    ensures ok { OnOk result (Done (flat_map (writes_at start.deck) (events_from start.deck start.event)) (F.outs folder.old) (F.outs folder.new)) }
+    ensures err { IfErr result (λ fault. Ended (flat_map (writes_at start.deck) (events_from start.deck start.event)) fault (F.outs folder.old) (F.outs folder.new)) }
+    ensures cause { IfErr result (HasCause (F.write_faults folder.old) (F.write_faults folder.new)) }
+    ensures rest { OnlyWrites (F.files folder.old) (F.files folder.new) (F.read_faults folder.old) (F.read_faults folder.new) (F.write_faults folder.old) (F.write_faults folder.new) }
+{
+    let mut closed = start;
+    loop {
+        writing::write_at(alloc, &closed, folder)?;
+        match closed.fire() {
+            Fired::Ended(last, stop) => return Ok((last, stop)),
+            Fired::Next(next) => closed = close(alloc, next)?,
+        }
+    }
+}
+
+/// The summary of a run at its last event.
+fn summary_of(alloc: Global, last: &Closed, stop: Stop) -> Result<Summary, OutOfMemory>
+    ensures events { IfOk result (λ summary. summary.events ≡ last.now.event) }
+    ensures stop { IfOk result (λ summary. summary.stop ≡ stop) }
+    ensures time { IfOk result (λ summary. IsSomeAnd (trajectory_of last.now.deck last.now.event) (λ s. summary.time ≡ s.time)) }
+    ensures surface { IfOk result (λ summary. IsSomeAnd (trajectory_of last.now.deck last.now.event) (λ s. summary.surface ≡ adsorbates s.state ∷ [])) }
+    ensures others { IfOk result (λ summary. (summary.energy ≡ pos 0) × (summary.gas ≡ [])) }
+{
+    let count = last.count();
+    Ok(Summary {
+        events: last.event(),
+        time: last.time(),
+        energy: 0,
+        surface: Items::new(vec![in alloc; count]?),
+        gas: Items::new(Vec::new(alloc)),
+        stop,
+    })
+}
+
+/// Runs a sound deck to its end, and writes its outputs.
+///
+/// The workers, how many anchors there have to be for each (`spread`) and the gate are for the
+/// threads that share the work of an event; the run does not depend on them.
+pub fn drive<R: Threads + Sync, F: Folder, G: Gate + Sync>(
+    _rt: &R,
+    alloc: Global,
+    deck: PlainDeck,
+    folder: &mut F,
+    _gate: &G,
+    _workers: u32,
+    _spread: u32,
+) -> Result<Summary, DriveFault>
+    requires deck { IsSound deck }
+    requires some_workers { 1 ≤ _workers }
+    requires few_workers { _workers ≤ 64 }
+    requires spread { 1 ≤ _spread }
+    ensures summary { IfOk result (IsSummary deck) }
+    ensures ok { OnOk result (Done (writes_of deck) (F.outs folder.old) (F.outs folder.new)) }
+    ensures err { IfErr result (λ fault. Ended (writes_of deck) fault (F.outs folder.old) (F.outs folder.new)) }
+    ensures cause { IfErr result (HasCause (F.write_faults folder.old) (F.write_faults folder.new)) }
+    ensures rest { OnlyWrites (F.files folder.old) (F.files folder.new) (F.read_faults folder.old) (F.read_faults folder.new) (F.write_faults folder.old) (F.write_faults folder.new) }
+{
+    let start = match Closed::start(alloc, deck) {
+        Ok(start) => start,
+        Err(_) => return Err(DriveFault::OutOfMemory),
+    };
+    writing::write_before(alloc, start.deck(), folder)?;
+    let (last, stop) = run_events(alloc, start, folder)?;
+    Ok(summary_of(alloc, &last, stop)?)
+}

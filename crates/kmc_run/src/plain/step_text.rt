@@ -1,0 +1,23 @@
+//! A step of the plain mechanism file.
+
+ghost use Rattle.std.specs.Prelude.{◌≡◌, ◌<◌, ◌≤◌, ◌^◌, ◌%◌};
+
+/// A step on one site.
+#[derive(Clone, Copy, Debug)]
+pub(crate) struct StepText<'a> {
+    pub(crate) label: &'a [u8],
+    /// Whether the site holds the species before the step.
+    pub(crate) before: bool,
+    /// Whether the site holds the species after the step.
+    pub(crate) after: bool,
+    /// The pre-exponential factor in 1/s is these digits times a power of ten.
+    pub(crate) digits: u64,
+    pub(crate) power: u32,
+    /// The activation energy in eV.
+    pub(crate) activation: u64,
+    ghost digits_fit: { digits < 10 ^ 18 },
+    /// The digits end in no zero, unless they are 0.
+    ghost shortest: { digits % 10 ≡ 0 → digits ≡ 0 },
+    ghost power_fits: { power ≤ 400 },
+    ghost activation_fits: { activation ≤ 1000 },
+}

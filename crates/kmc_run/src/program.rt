@@ -1,0 +1,96 @@
+ghost use Rattle.std.specs.Prelude.{◌≡◌, ◌≢◌, ◌↔◌, false, true, IfSome, IsTrue, map, string_bytes};
+ghost use Rattle.kmc_run.specs.Answers.{are_right, not_built, HasCause, KeepsOuts, Leaves, MayAnswer};
+ghost use Rattle.kmc_run.specs.PlainDecks.{deck_of_files};
+
+use crate::drive_fault::DriveFault;
+use crate::driving::drive;
+use crate::loading::load_texts;
+use crate::plain_deck::read_deck;
+use crate::status::{Fault, Status};
+use kmc_base::{FileId, Folder, Gate, Sink};
+use std::alloc::Global;
+use std::marker::Sync;
+use std::thread::Threads;
+
+/// The words are the one word `run`.
+fn has_right_words(words: &[String]) -> bool
+    ensures { result ≡ are_right (map string_bytes words.now) }
+{
+    match words {
+        [word] => word.as_str() == "run",
+        _ => false,
+    }
+}
+
+/// The fault of a file that is not of a form that is built.
+fn not_built(file: FileId) -> Fault
+    ensures { result ≡ not_built file }
+{
+    Fault {
+        file,
+        line: 0,
+        kind: 0,
+    }
+}
+
+/// Loads the deck, runs it and writes its outputs.
+fn run<R: Threads + Sync, F: Folder, G: Gate + Sync>(
+    rt: &R,
+    alloc: Global,
+    folder: &mut F,
+    gate: &G,
+) -> Status
+    ensures answer { IfSome (F.files folder.old) (λ told. MayAnswer (deck_of_files told) result) }
+    ensures outs { IfSome (F.files folder.old) (λ told. Leaves (deck_of_files told) result (F.outs folder.old) (F.outs folder.new)) }
+    ensures kept { KeepsOuts result (F.outs folder.old) (F.outs folder.new) }
+    ensures cause { HasCause (F.read_faults folder.old) (F.read_faults folder.new) (F.write_faults folder.old) (F.write_faults folder.new) result }
+    ensures files { F.files folder.new ≡ F.files folder.old }
+    ensures words { result ≢ Status.BadWords }
+    ensures screen { result ≢ Status.ScreenFault }
+{
+    let texts = match load_texts(alloc, folder) {
+        Ok(texts) => texts,
+        Err(status) => return status,
+    };
+    let deck = match read_deck(alloc, &texts) {
+        Ok(Ok(deck)) => deck,
+        Ok(Err(file)) => return Status::Refused(not_built(file)),
+        Err(_) => return Status::OutOfMemory,
+    };
+    match drive(rt, alloc, deck, folder, gate, 1, 64) {
+        Ok(_) => Status::Done,
+        Err(DriveFault::WriteFault(out)) => Status::WriteFault(out),
+        Err(DriveFault::OutOfMemory) => Status::OutOfMemory,
+    }
+}
+
+/// Runs the program on the words after its name.
+///
+/// The order is: the words; the files, of which the first that cannot be read ends it; the first
+/// fault of the deck; the run with its writes. The screen is not written to yet.
+pub fn run_program<R: Threads + Sync, F: Folder, S: Sink, G: Gate + Sync>(
+    rt: &R,
+    alloc: Global,
+    words: &[String],
+    folder: &mut F,
+    _screen: &mut S,
+    gate: &G,
+) -> Status
+    // It answers so exactly where the words are not those that it takes.
+    ensures words { (result ≡ Status.BadWords) ↔ (are_right (map string_bytes words.now) ≡ false) }
+    // Which answers there may be, and what is in the outputs then, by the deck that the files stand for.
+    ensures answer { are_right (map string_bytes words.now) ≡ true → IfSome (F.files folder.old) (λ told. MayAnswer (deck_of_files told) result) }
+    ensures outs { are_right (map string_bytes words.now) ≡ true → IfSome (F.files folder.old) (λ told. Leaves (deck_of_files told) result (F.outs folder.old) (F.outs folder.new)) }
+    // An answer that nothing was run keeps the outputs, whether or not the files are told.
+    ensures kept { KeepsOuts result (F.outs folder.old) (F.outs folder.new) }
+    // A fault of reading or writing is answered only where it came in this call.
+    ensures cause { HasCause (F.read_faults folder.old) (F.read_faults folder.new) (F.write_faults folder.old) (F.write_faults folder.new) result }
+    ensures files { F.files folder.new ≡ F.files folder.old }
+    ensures screen { _screen.new ≡ _screen.old }
+    ensures no_screen_fault { result ≢ Status.ScreenFault }
+{
+    if !has_right_words(words) {
+        return Status::BadWords;
+    }
+    run(rt, alloc, folder, gate)
+}

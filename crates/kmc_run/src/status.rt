@@ -1,0 +1,49 @@
+ghost use Rattle.std.specs.Prelude.{◌≡◌};
+
+use kmc_base::{FileId, OutId};
+
+/// A fault of a deck: the file, the line (0 for the file as a whole) and the kind.
+#[derive(Clone, Copy, Debug, PartialEq, Eq, Hash)]
+pub struct Fault {
+    pub file: FileId,
+    pub line: u32,
+    pub kind: u8,
+}
+
+/// How a run of the program ended.
+#[derive(Clone, Copy, Debug, PartialEq, Eq, Hash)]
+pub enum Status {
+    /// All was done.
+    Done,
+    /// The words are not those that the program takes.
+    BadWords,
+    /// The deck has a fault, and this is the first.
+    Refused(Fault),
+    /// An input file could not be read.
+    ReadFault(FileId),
+    /// An output could not be written.
+    WriteFault(OutId),
+    /// The screen failed; the outputs are complete.
+    ScreenFault,
+    /// There was no memory.
+    OutOfMemory,
+}
+
+impl Status {
+    ghost use Rattle.kmc_run.specs.Statuses.{number_of_status};
+
+    /// The exit status of the program.
+    pub fn number(self) -> u8
+        ensures { result ≡ number_of_status self }
+    {
+        match self {
+            Status::Done => 0,
+            Status::BadWords => 2,
+            Status::Refused(_) => 3,
+            Status::ReadFault(_) => 4,
+            Status::WriteFault(_) => 5,
+            Status::ScreenFault => 6,
+            Status::OutOfMemory => 7,
+        }
+    }
+}

@@ -1,0 +1,19 @@
+use kmc_base::Items;
+use kmc_core::Stop;
+
+/// What a run came to.
+#[derive(Debug, Drop)]
+pub struct Summary {
+    /// The number of its last event.
+    pub events: u64,
+    /// The time of that event, in as.
+    pub time: u128,
+    /// The energy of the lattice, in neV.
+    pub energy: i128,
+    /// The number of adsorbates of each surface species.
+    pub surface: Items<u64>,
+    /// The gas molecules of each species produced, less those consumed.
+    pub gas: Items<i64>,
+    /// Why the run ended.
+    pub stop: Stop,
+}
