@@ -14,6 +14,8 @@ mod program;
 mod specnum;
 mod status;
 mod summary;
+#[cfg(test)]
+mod tests;
 mod texts;
 mod writing;
 
