@@ -1,5 +1,5 @@
 -- The samples of a run.
-use Rattle.std.proofs.Common.{◌≡◌, ℕ, ◌+◌, ◌/◌, ◌%◌, Bool, true, false, cond, eqb, List, [], ◌∷◌, Option, None, Some, refl, sym, ap, subst, ◌∙◌}
+use Rattle.std.proofs.Common.{◌≡◌, ℕ, ◌/◌, ◌%◌, Bool, cond, List, [], ◌∷◌, Option, None, Some, refl, sym, ap, ◌∙◌}
 use Rattle.std.proofs.lemmas.Bool.{eq-eqb}
 use Rattle.std.specs.Option.{IsSomeAnd, option_map_or}
 use Rattle.kmc_base.specs.declared.ids.OutId.TheVariants.{Specnum}
@@ -8,7 +8,7 @@ use Rattle.kmc_core.specs.Trajectory.{Snapshot}
 use Rattle.kmc_core.specs.declared.deck.PlainDeck.{PlainDeck}
 use Rattle.kmc_run.specs.Samples.{adsorbates, sample_line, writes_at}
 use Rattle.kmc_run.specs.Specnum.{specnum_line}
-use Rattle.kmc_run.specs.Writes.{Write, Append}
+use Rattle.kmc_run.specs.Writes.{Append}
 
 -- the line of a sample, by the time and the number of adsorbates
 line_of : (deck : PlainDeck) (event time count : ℕ) (o : Option (Snapshot (List Bool))) → IsSomeAnd o (λ s. time ≡ s.time) → IsSomeAnd o (λ s. count ≡ adsorbates s.state) →

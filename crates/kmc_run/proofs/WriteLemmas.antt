@@ -6,7 +6,7 @@ use Rattle.kmc_base.specs.Outs.{Outs}
 use Rattle.kmc_base.specs.Told.{Tells}
 use Rattle.kmc_base.specs.declared.ids.FileId.{FileId}
 use Rattle.kmc_base.specs.declared.ids.OutId.{OutId}
-use Rattle.kmc_run.specs.Writes.{Write, Append, Done, Ended, FailsAt, MayWrite, OnlyWrites, Stops, StopsAfter, all_written, out_of, written}
+use Rattle.kmc_run.specs.Writes.{Write, Append, Done, Ended, MayWrite, OnlyWrites, Stops, all_written, out_of, written}
 use Rattle.kmc_run.specs.declared.drive_fault.DriveFault.{DriveFault}
 use Rattle.kmc_run.specs.declared.drive_fault.DriveFault.TheVariants.{WriteFault, OutOfMemory}
 

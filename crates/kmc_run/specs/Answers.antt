@@ -1,12 +1,10 @@
 -- What the program may answer, and what it leaves in the outputs.
-use Rattle.std.specs.Prelude.{◌≡◌, ℕ, [], ◌∷◌, Bool, true, false, List, Option, None, Some, Result, Ok, Err, IfOk, IfSome, codes, if◌then◌else◌}
+use Rattle.std.specs.Prelude.{◌≡◌, ℕ, [], ◌∷◌, Bool, false, List, Option, Result, Ok, Err, codes}
 use Rattle.kmc_base.specs.Faults.{Rose}
-use Rattle.kmc_base.specs.Files.{Files}
 use Rattle.kmc_base.specs.Outs.{Outs}
 use Rattle.kmc_base.specs.declared.ids.FileId.{FileId}
 use Rattle.kmc_base.specs.declared.ids.OutId.{OutId}
 use Rattle.kmc_core.specs.declared.deck.PlainDeck.{PlainDeck}
-use Rattle.kmc_run.specs.PlainDecks.{deck_of_files}
 use Rattle.kmc_run.specs.PlainText.{same_word}
 use Rattle.kmc_run.specs.Samples.{writes_of}
 use Rattle.kmc_run.specs.Writes as writing

@@ -1,5 +1,5 @@
 -- The deck that four plain files stand for, and the first file that is not plain.
-use Rattle.std.specs.Prelude.{ℕ, ◌*◌, ◌^◌, Bool, true, false, List, map, Option, None, Some, Result, Ok, Err, if◌then◌else◌, length, nat_le, pos}
+use Rattle.std.specs.Prelude.{ℕ, ◌*◌, ◌^◌, Bool, false, List, map, Option, None, Some, Result, Ok, Err, if◌then◌else◌, length, nat_le, pos}
 use Rattle.fixed_math.specs.DecimalLogarithm.{lg_of_decimal}
 use Rattle.kmc_base.specs.Files.{Files, file_of}
 use Rattle.kmc_base.specs.declared.ids.FileId.{FileId}

@@ -1,5 +1,5 @@
 -- The writes of a run, one after another, and what they make of the outputs.
-use Rattle.std.specs.Prelude.{◌≡◌, ℕ, List, [], ◌∷◌, ◌++◌, Option, Result}
+use Rattle.std.specs.Prelude.{◌≡◌, ℕ, List, [], ◌∷◌, ◌++◌, Option}
 use Rattle.kmc_base.specs.Faults.{NoneFell, Rose}
 use Rattle.kmc_base.specs.Files.{Files}
 use Rattle.kmc_base.specs.Outs.{Outs, MayAppend, MayBegin, appended, begun}

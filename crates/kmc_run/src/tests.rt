@@ -74,8 +74,10 @@ fn run<R: Threads + Sync>(
 fn writes_the_samples_of_whole_runs(rt: HostRuntime) -> Result<(), Fail> {
     const HEAD: &str = "specnum 1\ncolumns sample event time temperature energy A*\n";
     const NOTHING: &str = "0 0 0.000000000000000000 500.000 0.000000000 0\n";
-    const STAYS: &str = "1 1 0.000000000000000001 500.000 0.000000000 0\n2 2 0.000000000000000001 500.000 0.000000000 0\n3 3 0.000000000000000001 500.000 0.000000000 0\n4 4 0.000000000000000001 500.000 0.000000000 0\n5 5 0.000000000000000002 500.000 0.000000000 0\n";
-    const FILLS: &str = "1 1 0.000000000000000001 500.000 0.000000000 1\n2 2 0.000000000000000001 500.000 0.000000000 2\n3 3 0.000000000000000001 500.000 0.000000000 3\n4 4 0.000000000000000001 500.000 0.000000000 4\n";
+    const STAYS: &str =
+        "1 1 0.000000000000000001 500.000 0.000000000 0\n2 2 0.000000000000000001 500.000 0.000000000 0\n3 3 0.000000000000000001 500.000 0.000000000 0\n4 4 0.000000000000000001 500.000 0.000000000 0\n5 5 0.000000000000000002 500.000 0.000000000 0\n";
+    const FILLS: &str =
+        "1 1 0.000000000000000001 500.000 0.000000000 1\n2 2 0.000000000000000001 500.000 0.000000000 2\n3 3 0.000000000000000001 500.000 0.000000000 3\n4 4 0.000000000000000001 500.000 0.000000000 4\n";
     let alloc = rt.alloc();
     for (max_steps, after, samples) in [(0, "*", ""), (5, "*", STAYS), (10, "A*", FILLS)] {
         let mut folder = folder(alloc, max_steps, after, LATTICE, &[], &[])?;
@@ -102,17 +104,26 @@ fn refuses_with_its_cause(rt: HostRuntime) -> Result<(), Fail> {
     assert_eq!(rt; other.output(OutId::Specnum), None);
 
     let mut words = folder(alloc, 5, "*", LATTICE, &[], &[])?;
-    assert_eq!(rt; run(&rt, alloc, &["run", "run"], &mut words)?, Status::BadWords);
+    assert_eq!(rt;
+        run(&rt, alloc, &["run", "run"], &mut words)?,
+        Status::BadWords
+    );
     assert_eq!(rt; run(&rt, alloc, &["walk"], &mut words)?, Status::BadWords);
     assert_eq!(rt; run(&rt, alloc, &[], &mut words)?, Status::BadWords);
     assert_eq!(rt; words.output(OutId::Specnum), None);
 
     let mut unread = folder(alloc, 5, "*", LATTICE, &[2], &[])?;
-    assert_eq!(rt; run(&rt, alloc, &["run"], &mut unread)?, Status::ReadFault(FileId::Lattice));
+    assert_eq!(rt;
+        run(&rt, alloc, &["run"], &mut unread)?,
+        Status::ReadFault(FileId::Lattice)
+    );
     assert_eq!(rt; unread.output(OutId::Specnum), None);
 
     let mut unwritten = folder(alloc, 5, "*", LATTICE, &[], &[1])?;
-    assert_eq!(rt; run(&rt, alloc, &["run"], &mut unwritten)?, Status::WriteFault(OutId::Specnum));
+    assert_eq!(rt;
+        run(&rt, alloc, &["run"], &mut unwritten)?,
+        Status::WriteFault(OutId::Specnum)
+    );
     assert_eq!(rt; unwritten.output(OutId::Specnum), Some(b"".as_slice()));
     Ok(())
 }

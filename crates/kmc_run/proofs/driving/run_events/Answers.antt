@@ -1,4 +1,4 @@
-use Rattle.std.proofs.Common.{ℕ, ap, sym, ◌∙◌, ◌<◌, arith, subst}
+use Rattle.std.proofs.Common.{ℕ, ap, sym, ◌∙◌, ◌<◌, subst}
 use Rattle.std.proofs.lemmas.Result.{err_from_is_err_and}
 use Rattle.kmc_run.proofs.EventLemmas.{done_at, end_at, ended_at, passed_at, passed_end, passed_fails, passed_last, passed_one, passed_stops, stop_of_at}
 use Rattle.kmc_run.proofs.WriteLemmas.{only_writes_then}
