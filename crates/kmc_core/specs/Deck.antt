@@ -13,7 +13,6 @@ IsSoundStep step = unsigned_abs step.activation ≤ 10 ^ 12
 pub record IsSound (deck : PlainDeck) : Type 0 where
   pub some_heat : 1 ≤ deck.temperature
   pub little_heat : deck.temperature ≤ 10000000
-  pub some_sites : 1 ≤ deck.sites
   pub few_sites : deck.sites ≤ MAX_SITES
   pub period : 1 ≤ deck.period
   pub max_steps : deck.max_steps ≤ 1000000

@@ -21,7 +21,7 @@ pub struct PlainDeck {
     pub seed: u64,
     /// The temperature in mK, from 1 to 10,000,000.
     pub temperature: u32,
-    /// The number of sites, from 1 to `MAX_SITES`.
+    /// The number of sites, at most `MAX_SITES`.
     pub sites: u32,
     /// The name of the species.
     pub species: Items<u8>,

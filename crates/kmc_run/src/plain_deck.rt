@@ -47,7 +47,6 @@ fn join(
     sites: u32,
     steps: &[StepText],
 ) -> Result<PlainDeck, OutOfMemory>
-    requires some_sites { 1 ≤ sites }
     requires few_sites { sites ≤ 65536 }
     requires few_steps { length steps.now ≤ 16 }
     ensures value { IfOk result (λ deck. deck ≡ plain_deck (simulation_view simulation) sites (map step_view steps.now)) }
