@@ -26,6 +26,10 @@ fn mechanism(alloc: Global, after: &str) -> Result<String, Fail> {
     Ok(text)
 }
 
+fn file(alloc: Global, id: FileId, text: &str) -> Result<(FileId, Vec<u8>), Fail> {
+    Ok((id, Vec::from_slice(alloc, text.as_bytes())?))
+}
+
 // A folder of a deck, of which these loads and appends fail.
 fn folder(
     alloc: Global,
@@ -37,15 +41,12 @@ fn folder(
 ) -> Result<MemoryFolder, Fail> {
     let simulation = simulation(alloc, max_steps)?;
     let mechanism = mechanism(alloc, after)?;
-    let mut files = Vec::new(alloc);
-    for (file, text) in [
-        (FileId::Simulation, simulation.as_str()),
-        (FileId::Lattice, lattice),
-        (FileId::Energetics, ENERGETICS),
-        (FileId::Mechanism, mechanism.as_str()),
-    ] {
-        files.push((file, Vec::from_slice(alloc, text.as_bytes())?))?;
-    }
+    let files = vec![in alloc;
+        file(alloc, FileId::Simulation, &simulation)?,
+        file(alloc, FileId::Lattice, lattice)?,
+        file(alloc, FileId::Energetics, ENERGETICS)?,
+        file(alloc, FileId::Mechanism, &mechanism)?,
+    ]?;
     let folder = MemoryFolder::new(
         files,
         Vec::from_slice(alloc, loads)?,
