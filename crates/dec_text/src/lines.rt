@@ -14,6 +14,20 @@ pub struct Span {
     pub end: usize,
 }
 
+impl Span {
+    ghost use Rattle.std.specs.Prelude.{min};
+    ghost use Rattle.dec_text.specs.Spans.{bytes_at};
+
+    /// The bytes of the word in its text. A place past the end of the text has no bytes.
+    pub fn bytes(self, text: &[u8]) -> &[u8]
+        ensures { result.now ≡ bytes_at text.now self }
+    {
+        let start = self.start.min(text.len());
+        let end = self.end.min(text.len()).max(start);
+        &text[start..end]
+    }
+}
+
 /// A line that has a word.
 #[derive(Debug, Drop)]
 pub struct Line {
