@@ -1,0 +1,8 @@
+mod Below
+mod FirstKinds
+mod Least
+mod LineCounts
+mod Maps
+mod Powers
+mod Rows
+mod Words

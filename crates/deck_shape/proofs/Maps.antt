@@ -1,0 +1,28 @@
+-- searches of the values of a list
+use Rattle.std.proofs.Common.{◌≡◌, ◌||◌, ap, Bor, Option, None, Some, is_some, Bool, List, [], ◌∷◌, map, refl, ⊎_elim}
+use Rattle.std.specs.List.{find, list_any}
+use Rattle.std.specs.Option.{option_copied, option_map}
+use Rattle.std.proofs.lemmas.Bool.{cases_Bool}
+
+-- a value that passes a test is found where some value passes it
+pub is_some-find-map : {X Y : Type 0} (p : X → Bool) (h : Y → X) (ys : List Y) → is_some (find (λ y. p (h y)) ys) ≡ list_any p (map h ys)
+is_some-find-map p h [] = refl
+is_some-find-map p h (y ∷ ys) = ⊎_elim (λ e. rw e refl) (λ e. rw e (is_some-find-map p h ys)) (cases_Bool (p (h y)))
+
+-- the first value that passes a test is that of the first item whose value does
+pub find-map : {X Y : Type 0} (p : X → Bool) (h : Y → X) (ys : List Y) → option_map h (find (λ y. p (h y)) ys) ≡ find p (map h ys)
+find-map p h [] = refl
+find-map p h (y ∷ ys) = ⊎_elim (λ e. rw e refl) (λ e. rw e (find-map p h ys)) (cases_Bool (p (h y)))
+
+-- what a reference in an option points to, as a function sees it
+pub option_map-copied : {X Y : Type 0} (h : X → Y) (r : Option (Bor X)) → option_map (λ x. h x.now) r ≡ option_map h (option_copied r)
+option_map-copied h None = refl
+option_map-copied h (Some x) = refl
+
+pub is_some-copied : {X : Type 0} (r : Option (Bor X)) → is_some r ≡ is_some (option_copied r)
+is_some-copied None = refl
+is_some-copied (Some x) = refl
+
+pub list_any-map : {X Y : Type 0} (p : X → Bool) (h : Y → X) (ys : List Y) → list_any p (map h ys) ≡ list_any (λ y. p (h y)) ys
+list_any-map p h [] = refl
+list_any-map p h (y ∷ ys) = ap (λ b. p (h y) || b) (list_any-map p h ys)

@@ -1,0 +1,11 @@
+pub mod Keywords
+pub mod Tables
+pub mod LineWords
+pub mod Blocks
+pub mod Lists
+pub mod Names
+pub mod Numbers
+pub mod Reading
+pub mod LineFaults
+pub mod Shapes
+pub mod Views

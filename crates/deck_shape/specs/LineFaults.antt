@@ -1,0 +1,140 @@
+-- The faults of form: which kinds hold at a line, by what is read by the lines above it.
+use Rattle.std.specs.Prelude.{ℕ, ◌&&◌, ◌+◌, Bool, true, false, not, List, [], ◌∷◌, ◌++◌, length, Option, None, Some, Result, Ok, Err, if◌then◌else◌, is_none, is_some, unwrap_or}
+use Rattle.std.specs.List.{list_any}
+use Rattle.std.specs.Option.{option_map_or}
+use Rattle.dec_text.specs.Bytes.{is_line_feed}
+use Rattle.dec_text.specs.Lines.{WordLine, runs, word_lines}
+use Rattle.deck_shape.specs.Blocks.{BlockLines, ItemLines, has_word_of}
+use Rattle.deck_shape.specs.LineWords.{arguments_of, is_row}
+use Rattle.deck_shape.specs.Reading.{SoFar, argument_of, block_of, lattice_block, read_after, nothing_read, rule_at}
+use Rattle.deck_shape.specs.Tables.{allows, rules_of}
+use Rattle.deck_shape.specs.declared.kind.TheConstants.{STRAY_ROW, UNKNOWN_WORD, UNSUPPORTED_WORD, ARGUMENT_COUNT, REPEATED_WORD, MISSING_WORD, NOT_CLOSED, UNKNOWN_LATTICE}
+use Rattle.deck_shape.specs.declared.reading.Below.{Below}
+use Rattle.deck_shape.specs.declared.reading.Below.TheVariants.{Words, Rows, Enclosed}
+use Rattle.deck_shape.specs.declared.table.BlockKind.{BlockKind}
+use Rattle.deck_shape.specs.declared.table.Need.{Need}
+use Rattle.deck_shape.specs.declared.table.Need.TheVariants.{Optional, Required, ThisOr}
+use Rattle.deck_shape.specs.declared.table.Role.{Role}
+use Rattle.deck_shape.specs.declared.table.Role.TheVariants.{Value, Rows as HasRows, Encloses, BeginsLattice, Closes, Unsupported}
+use Rattle.deck_shape.specs.declared.table.Rule.{Rule}
+
+-- rows may stand on the next line
+abbrev pub takes_rows : Below → Bool
+takes_rows Words = false
+takes_rows Rows = true
+takes_rows (Enclosed rows) = true
+
+-- a word is required, by itself or with the word that counts as the same
+abbrev pub is_required : Need → Bool
+is_required Optional = false
+is_required Required = true
+is_required (ThisOr other) = true
+
+-- what a role is
+abbrev pub closes : Role → Bool
+closes Value = false
+closes HasRows = false
+closes (Encloses rows) = false
+closes BeginsLattice = false
+closes Closes = true
+closes Unsupported = false
+
+abbrev pub begins_lattice : Role → Bool
+begins_lattice Value = false
+begins_lattice HasRows = false
+begins_lattice (Encloses rows) = false
+begins_lattice BeginsLattice = true
+begins_lattice Closes = false
+begins_lattice Unsupported = false
+
+abbrev pub is_unsupported : Role → Bool
+is_unsupported Value = false
+is_unsupported HasRows = false
+is_unsupported (Encloses rows) = false
+is_unsupported BeginsLattice = false
+is_unsupported Closes = false
+is_unsupported Unsupported = true
+
+-- a row before any word line, or below a word that has no rows
+abbrev pub is_stray_row : SoFar → WordLine → Bool
+is_stray_row so_far line = is_row line && not (takes_rows so_far.below)
+
+-- a word that the block has not
+abbrev pub is_unknown : SoFar → WordLine → Bool
+is_unknown so_far line = not (is_row line) && is_none (rule_at so_far line)
+
+-- a word takes another number of arguments
+abbrev pub has_other_count : WordLine → Rule → Bool
+has_other_count line rule = not (allows rule.arguments (length (arguments_of line)))
+
+-- a word that may stand once stands again
+abbrev pub is_repeated : List ItemLines → Rule → Bool
+is_repeated items rule = rule.is_once && has_word_of rule items
+
+-- a word that has to stand does not
+abbrev pub is_missing : List ItemLines → Rule → Bool
+is_missing items rule = is_required rule.need && not (has_word_of rule items)
+
+-- the closing word of a block in which a word is missing
+abbrev pub misses_word : BlockKind → List ItemLines → Rule → Bool
+misses_word kind items rule = closes rule.role && list_any (is_missing items) (rules_of kind)
+
+-- the argument of the lattice file's first word names no lattice
+abbrev pub names_no_lattice : WordLine → Rule → Bool
+names_no_lattice line rule = begins_lattice rule.role && is_none (lattice_block (argument_of line))
+
+-- the first kind of some whose fault holds
+abbrev pub first_kind : List (Bool × ℕ) → Option ℕ
+first_kind [] = None
+first_kind (fault ∷ faults) = if fault.0 then Some fault.1 else first_kind faults
+
+-- the kinds that may hold at a word that the block has, rising
+abbrev pub rule_faults : SoFar → WordLine → Rule → List (Bool × ℕ)
+rule_faults so_far line rule =
+    (is_unsupported rule.role, UNSUPPORTED_WORD)
+    ∷ (has_other_count line rule, ARGUMENT_COUNT)
+    ∷ (is_repeated so_far.block.items rule, REPEATED_WORD)
+    ∷ (misses_word (block_of so_far) so_far.block.items rule, MISSING_WORD)
+    ∷ (names_no_lattice line rule, UNKNOWN_LATTICE)
+    ∷ []
+
+-- all the kinds that may hold at a line, rising
+abbrev pub line_faults : SoFar → WordLine → List (Bool × ℕ)
+line_faults so_far line =
+    (is_stray_row so_far line, STRAY_ROW)
+    ∷ (is_unknown so_far line, UNKNOWN_WORD)
+    ∷ option_map_or (rule_faults so_far line) (rule_at so_far line) []
+
+-- the fault of a line: the least kind that holds
+abbrev pub fault_at : SoFar → WordLine → Option ℕ
+fault_at so_far line = first_kind (line_faults so_far line)
+
+-- a line closes the file: the closing word of the file's block, where no rows are enclosed
+abbrev pub is_outermost : Below → Bool
+is_outermost Words = true
+is_outermost Rows = true
+is_outermost (Enclosed rows) = false
+
+abbrev pub closes_file : SoFar → WordLine → Bool
+closes_file so_far line = is_outermost so_far.below && option_map_or (λ rule. closes rule.role) (rule_at so_far line) false
+
+-- how many lines a text has, those without words among them
+abbrev pub line_count : List ℕ → ℕ
+line_count text = length (runs is_line_feed 0 text)
+
+-- A file is read line by line, with the lines above each one in view, up to the first that has a fault or that closes
+-- the file; what stands below it is not read. A file that ends before is not closed, at the line after its last. The
+-- answer is the block of the file, or the line and the kind of the first fault.
+abbrev pub read_below : SoFar → List WordLine → List WordLine → ℕ → Result BlockLines (ℕ × ℕ)
+read_below first above [] count = Err (count + 1, NOT_CLOSED)
+read_below first above (line ∷ lines) count =
+    if is_some (fault_at (read_after first above) line)
+    then Err (line.number, unwrap_or (fault_at (read_after first above) line) 0)
+    else
+    (if closes_file (read_after first above) line
+    then Ok (record (read_after first above).block { end_line = line.number })
+    else read_below first (above ++ line ∷ []) lines count)
+
+-- the block of a text, or its first fault of form
+abbrev pub block_of_text : BlockKind → List ℕ → Result BlockLines (ℕ × ℕ)
+block_of_text kind text = read_below (nothing_read kind) [] (word_lines text) (line_count text)

@@ -1,0 +1,106 @@
+-- What is read some lines of a file: its block as far as it is read, and what may stand on the next line.
+use Rattle.std.specs.Prelude.{ℕ, List, [], ◌∷◌, ◌++◌, Option, None, Some, codes, if◌then◌else◌, unwrap_or}
+use Rattle.std.specs.Option.{option_map_or}
+use Rattle.dec_text.specs.Lines.{WordLine, run}
+use Rattle.kmc_base.specs.declared.ids.FileId.{FileId}
+use Rattle.kmc_base.specs.declared.ids.FileId.TheVariants.{Simulation as SimulationFile, Lattice as LatticeText, Energetics, Mechanism, State}
+use Rattle.deck_shape.specs.Blocks.{BlockLines, with_row}
+use Rattle.deck_shape.specs.LineWords.{arguments_of, first_of, head_of, is_row}
+use Rattle.deck_shape.specs.Tables.{rule_for, same_word}
+use Rattle.deck_shape.specs.declared.reading.Below.{Below}
+use Rattle.deck_shape.specs.declared.reading.Below.TheVariants.{Words, Rows, Enclosed}
+use Rattle.deck_shape.specs.declared.table.BlockKind.{BlockKind}
+use Rattle.deck_shape.specs.declared.table.BlockKind.TheVariants.{Simulation, LatticeFile, DefaultChoice, PeriodicCell, Explicit}
+use Rattle.deck_shape.specs.declared.table.Role.{Role}
+use Rattle.deck_shape.specs.declared.table.Role.TheVariants.{Value, Rows as HasRows, Encloses, BeginsLattice, Closes, Unsupported}
+use Rattle.deck_shape.specs.declared.table.Rule.{Rule}
+
+pub record SoFar : Type 0 where
+  pub block : BlockLines
+  pub below : Below
+
+-- the block that a file is before its first line, where its words are known
+abbrev pub first_block : FileId → Option BlockKind
+first_block SimulationFile = Some Simulation
+first_block LatticeText = Some LatticeFile
+first_block Energetics = None
+first_block Mechanism = None
+first_block State = None
+
+-- nothing is read yet
+abbrev pub nothing_read : BlockKind → SoFar
+nothing_read kind = record {
+  block = record { kind = kind; word = run 0 []; line = 0; end_line = 0; name = run 0 []; items = [] };
+  below = Words;
+}
+
+-- the block that a line below stands in: that of enclosed rows, or the file's
+abbrev pub kind_below : Below → BlockKind → BlockKind
+kind_below Words kind = kind
+kind_below Rows kind = kind
+kind_below (Enclosed rows) kind = rows
+
+-- the block of the next line
+abbrev pub block_of : SoFar → BlockKind
+block_of so_far = kind_below so_far.below so_far.block.kind
+
+-- the rule of a word line in the block where it stands
+abbrev pub rule_at : SoFar → WordLine → Option Rule
+rule_at so_far line = if is_row line then None else rule_for (block_of so_far) (head_of line)
+
+-- the lattice block that an argument names
+abbrev pub lattice_block : List ℕ → Option BlockKind
+lattice_block word =
+    if same_word (codes "default_choice") word
+    then Some DefaultChoice
+    else
+    (if same_word (codes "periodic_cell") word
+    then Some PeriodicCell
+    else (if same_word (codes "explicit") word then Some Explicit else None))
+
+-- the first argument of a line
+abbrev pub argument_of : WordLine → List ℕ
+argument_of line = (first_of (arguments_of line)).bytes
+
+-- the block once a word line has opened it
+abbrev pub begun : WordLine → BlockLines → BlockLines
+begun line block = record {
+  kind = unwrap_or (lattice_block (argument_of line)) block.kind;
+  word = first_of line.words;
+  line = line.number;
+  end_line = 0;
+  name = first_of (arguments_of line);
+  items = [];
+}
+
+-- one word line more, and what may stand below it
+abbrev pub with_item : WordLine → Below → SoFar → SoFar
+with_item line below so_far = record {
+  block = record so_far.block { items = so_far.block.items ++ record { line = line; rows = [] } ∷ [] };
+  below = below;
+}
+
+-- what a word line without faults makes of it, by the role of its word; the line that closes the file is not among them
+abbrev pub after_word : WordLine → SoFar → Role → SoFar
+after_word line so_far Value = with_item line Words so_far
+after_word line so_far HasRows = with_item line Rows so_far
+after_word line so_far (Encloses rows) = with_item line (Enclosed rows) so_far
+after_word line so_far BeginsLattice = record { block = begun line so_far.block; below = Words }
+after_word line so_far Closes = record so_far { below = Words }
+after_word line so_far Unsupported = so_far
+
+-- a row belongs to the last word line
+abbrev pub after_row : WordLine → SoFar → SoFar
+after_row row so_far = record so_far { block = record so_far.block { items = with_row row so_far.block.items } }
+
+-- what is read by a line without faults
+abbrev pub after_line : WordLine → SoFar → SoFar
+after_line line so_far =
+    if is_row line
+    then after_row line so_far
+    else option_map_or (λ rule. after_word line so_far rule.role) (rule_at so_far line) so_far
+
+-- what is read by some lines, the first of them first
+abbrev pub read_after : SoFar → List WordLine → SoFar
+read_after so_far [] = so_far
+read_after so_far (line ∷ lines) = read_after (after_line line so_far) lines

@@ -1,0 +1,39 @@
+-- The words of the blocks, by the tables that the reader reads too.
+use Rattle.std.specs.Prelude.{ℕ, ◌==◌, ◌&&◌, Bool, true, List, Option, find, nat_le}
+use Rattle.std.specs.Cmp.Lexicographic.{pointwise}
+use Rattle.deck_shape.specs.Keywords.{spelling}
+use Rattle.deck_shape.specs.declared.keyword.Keyword.{Keyword}
+use Rattle.deck_shape.specs.declared.table.Arguments.{Arguments}
+use Rattle.deck_shape.specs.declared.table.Arguments.TheVariants.{Exactly, Between, Any}
+use Rattle.deck_shape.specs.declared.table.BlockKind.{BlockKind}
+use Rattle.deck_shape.specs.declared.table.BlockKind.TheVariants.{Simulation, LatticeFile, DefaultChoice, PeriodicCell, Explicit, NeighboringStructure, LatticeStructure}
+use Rattle.deck_shape.specs.declared.table.Rule.{Rule}
+use Rattle.deck_shape.specs.declared.table.TheConstants.{SIMULATION, LATTICE_FILE, DEFAULT_CHOICE, PERIODIC_CELL, EXPLICIT, NEIGHBORING_STRUCTURE, LATTICE_STRUCTURE}
+
+-- the rules of a block: its words
+abbrev pub rules_of : BlockKind → List Rule
+rules_of Simulation = SIMULATION
+rules_of LatticeFile = LATTICE_FILE
+rules_of DefaultChoice = DEFAULT_CHOICE
+rules_of PeriodicCell = PERIODIC_CELL
+rules_of Explicit = EXPLICIT
+rules_of NeighboringStructure = NEIGHBORING_STRUCTURE
+rules_of LatticeStructure = LATTICE_STRUCTURE
+
+-- two words have the same bytes
+abbrev pub same_word : List ℕ → List ℕ → Bool
+same_word a b = pointwise (λ x y. x == y) a b
+
+-- a word is spelled as a keyword
+abbrev pub is_spelled : Keyword → List ℕ → Bool
+is_spelled keyword word = same_word (spelling keyword) word
+
+-- the rule of a word in a block, where the block has the word
+abbrev pub rule_for : BlockKind → List ℕ → Option Rule
+rule_for kind word = find (λ rule. is_spelled rule.keyword word) (rules_of kind)
+
+-- so many arguments are allowed
+abbrev pub allows : Arguments → ℕ → Bool
+allows (Exactly n) count = count == n
+allows (Between least most) count = nat_le least count && nat_le count most
+allows Any count = true

@@ -1,0 +1,19 @@
+-- What the reader has so far, as lists of lines.
+use Rattle.std.specs.Prelude.{ℕ, List, map}
+use Rattle.dec_text.specs.Spans.{run_at}
+use Rattle.deck_shape.specs.Blocks.{item_at}
+use Rattle.deck_shape.specs.Reading.{SoFar}
+use Rattle.deck_shape.specs.declared.reading.Reading.{Reading}
+
+abbrev pub reading_at : List ℕ → Reading → SoFar
+reading_at text reading = record {
+  block = record {
+    kind = reading.kind;
+    word = run_at text reading.word;
+    line = reading.line;
+    end_line = 0;
+    name = run_at text reading.name;
+    items = map (item_at text) reading.items.items;
+  };
+  below = reading.below;
+}

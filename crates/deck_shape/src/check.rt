@@ -1,0 +1,227 @@
+ghost use Rattle.std.specs.Prelude.{◌≡◌, ℕ, List, None, Some, if◌then◌else◌, map};
+ghost use Rattle.std.specs.List.{find, list_any};
+ghost use Rattle.std.specs.Option.{option_copied};
+ghost use Rattle.dec_text.specs.Spans.{line_at};
+ghost use Rattle.deck_shape.specs.Blocks.{has_keyword, has_other, has_word_of, item_at, stands};
+ghost use Rattle.deck_shape.specs.LineFaults.{closes, closes_file, fault_at, first_kind, has_other_count, is_missing, is_repeated, is_unsupported, misses_word, names_no_lattice, rule_faults, takes_rows};
+ghost use Rattle.deck_shape.specs.LineWords.{is_row};
+ghost use Rattle.deck_shape.specs.declared.kind.TheConstants.{STRAY_ROW};
+ghost use Rattle.deck_shape.specs.Reading.{rule_at};
+ghost use Rattle.deck_shape.specs.Tables.{allows, is_spelled, rule_for, rules_of};
+ghost use Rattle.deck_shape.specs.Views.{reading_at};
+
+use crate::keyword::Keyword;
+use crate::kind::{
+    ARGUMENT_COUNT, MISSING_WORD, REPEATED_WORD, STRAY_ROW, UNKNOWN_LATTICE, UNKNOWN_WORD,
+    UNSUPPORTED_WORD,
+};
+use crate::line_words::{argument, argument_count, begins_row, head};
+use crate::reading::{Below, Reading, lattice_block};
+use crate::shape::Item;
+use crate::table::{Arguments, BlockKind, Need, Role, Rule};
+use dec_text::Line;
+
+/// So many arguments are allowed.
+fn allows(arguments: Arguments, count: usize) -> bool
+    ensures { result ≡ allows arguments count }
+{
+    match arguments {
+        Arguments::Exactly(n) => count == n,
+        Arguments::Between(least, most) => least <= count && count <= most,
+        Arguments::Any => true,
+    }
+}
+
+/// A word is spelled as a keyword.
+fn is_spelled(keyword: Keyword, word: &[u8]) -> bool
+    ensures { result ≡ is_spelled keyword word.now }
+{
+    keyword.spelling() == word
+}
+
+/// The rule of a word in a block, where the block has the word.
+fn rule_for(kind: BlockKind, word: &[u8]) -> Option<&'static Rule>
+    ensures { option_copied result ≡ rule_for kind word.now }
+{
+    kind.rules()
+        .iter()
+        .find(|rule| is_spelled(rule.keyword, word))
+}
+
+/// A line is a row.
+pub(crate) fn is_row(bytes: &[u8], line: &Line) -> bool
+    ensures { result ≡ is_row (line_at bytes.now line.now) }
+{
+    begins_row(head(line).bytes(bytes))
+}
+
+/// The rule of a word line in the block where it stands.
+pub(crate) fn rule_at(reading: &Reading, bytes: &[u8], line: &Line) -> Option<&'static Rule>
+    ensures { option_copied result ≡ rule_at (reading_at bytes.now reading.now) (line_at bytes.now line.now) }
+{
+    let word = head(line).bytes(bytes);
+    if begins_row(word) {
+        None
+    } else {
+        rule_for(reading.block(), word)
+    }
+}
+
+/// A word line has this keyword.
+fn has_keyword(bytes: &[u8], keyword: Keyword, item: &Item) -> bool
+    ensures { result ≡ has_keyword keyword (item_at bytes.now item.now) }
+{
+    is_spelled(keyword, head(&item.line).bytes(bytes))
+}
+
+/// The first of some word lines that has this keyword.
+pub(crate) fn first_item<'a>(bytes: &[u8], keyword: Keyword, items: &'a [Item]) -> Option<&'a Item>
+    ensures { option_copied result ≡ find (λ item. has_keyword keyword (item_at bytes.now item)) items.now }
+{
+    items.iter().find(|item| has_keyword(bytes, keyword, item))
+}
+
+/// A keyword stands among word lines.
+fn stands(bytes: &[u8], keyword: Keyword, items: &[Item]) -> bool
+    ensures { result ≡ stands keyword (map (item_at bytes.now) items.now) }
+{
+    first_item(bytes, keyword, items).is_some()
+}
+
+/// The other word that counts as a rule's word stands among word lines.
+fn has_other(bytes: &[u8], need: Need, items: &[Item]) -> bool
+    ensures { result ≡ has_other need (map (item_at bytes.now) items.now) }
+{
+    match need {
+        Need::Optional | Need::Required => false,
+        Need::ThisOr(other) => stands(bytes, other, items),
+    }
+}
+
+/// The word of a rule stands among word lines, or the other word that counts as the same.
+fn has_word_of(bytes: &[u8], rule: &Rule, items: &[Item]) -> bool
+    ensures { result ≡ has_word_of rule.now (map (item_at bytes.now) items.now) }
+{
+    stands(bytes, rule.keyword, items) || has_other(bytes, rule.need, items)
+}
+
+/// A word that has to stand does not.
+fn is_missing(bytes: &[u8], rule: &Rule, items: &[Item]) -> bool
+    ensures { result ≡ is_missing (map (item_at bytes.now) items.now) rule.now }
+{
+    match rule.need {
+        Need::Optional => false,
+        Need::Required | Need::ThisOr(_) => !has_word_of(bytes, rule, items),
+    }
+}
+
+/// Some word that has to stand in a block does not.
+fn any_is_missing(bytes: &[u8], kind: BlockKind, items: &[Item]) -> bool
+    ensures { result ≡ list_any (is_missing (map (item_at bytes.now) items.now)) (rules_of kind) }
+{
+    kind.rules()
+        .iter()
+        .any(|rule| is_missing(bytes, rule, items))
+}
+
+/// The role is to close a block.
+fn closes(role: Role) -> bool
+    ensures { result ≡ closes role }
+{
+    matches!(role, Role::Closes)
+}
+
+/// The word is refused.
+fn is_unsupported(role: Role) -> bool
+    ensures { result ≡ is_unsupported role }
+{
+    matches!(role, Role::Unsupported)
+}
+
+/// A word takes another number of arguments.
+fn has_other_count(line: &Line, rule: &Rule) -> bool
+    ensures { (text : List ℕ) → result ≡ has_other_count (line_at text line.now) rule.now }
+{
+    !allows(rule.arguments, argument_count(line))
+}
+
+/// A word that may stand once stands again.
+fn is_repeated(bytes: &[u8], items: &[Item], rule: &Rule) -> bool
+    ensures { result ≡ is_repeated (map (item_at bytes.now) items.now) rule.now }
+{
+    rule.is_once && has_word_of(bytes, rule, items)
+}
+
+/// The closing word of a block in which a word is missing.
+fn misses_word(bytes: &[u8], kind: BlockKind, items: &[Item], rule: &Rule) -> bool
+    ensures { result ≡ misses_word kind (map (item_at bytes.now) items.now) rule.now }
+{
+    closes(rule.role) && any_is_missing(bytes, kind, items)
+}
+
+/// The argument of the lattice file's first word names no lattice.
+fn names_no_lattice(bytes: &[u8], line: &Line, rule: &Rule) -> bool
+    ensures { result ≡ names_no_lattice (line_at bytes.now line.now) rule.now }
+{
+    match rule.role {
+        Role::BeginsLattice => lattice_block(argument(line).bytes(bytes)).is_none(),
+        _ => false,
+    }
+}
+
+/// The least kind of fault that holds at a word that its block has.
+fn rule_fault(reading: &Reading, bytes: &[u8], line: &Line, rule: &Rule) -> Option<u8>
+    ensures { result ≡ first_kind (rule_faults (reading_at bytes.now reading.now) (line_at bytes.now line.now) rule.now) }
+{
+    if is_unsupported(rule.role) {
+        return Some(UNSUPPORTED_WORD);
+    }
+    if has_other_count(line, rule) {
+        return Some(ARGUMENT_COUNT);
+    }
+    if is_repeated(bytes, &reading.items, rule) {
+        return Some(REPEATED_WORD);
+    }
+    if misses_word(bytes, reading.block(), &reading.items, rule) {
+        return Some(MISSING_WORD);
+    }
+    if names_no_lattice(bytes, line, rule) {
+        return Some(UNKNOWN_LATTICE);
+    }
+    None
+}
+
+/// The fault of a row.
+fn row_fault(below: Below) -> Option<u8>
+    ensures { result ≡ (if takes_rows below then None else Some STRAY_ROW) }
+{
+    match below {
+        Below::Words => Some(STRAY_ROW),
+        Below::Rows | Below::Enclosed(_) => None,
+    }
+}
+
+/// The least kind of fault that holds at a line, which has this rule, if its block has its word.
+pub(crate) fn fault_at(reading: &Reading, bytes: &[u8], line: &Line) -> Option<u8>
+    ensures { result ≡ fault_at (reading_at bytes.now reading.now) (line_at bytes.now line.now) }
+{
+    if is_row(bytes, line) {
+        return row_fault(reading.below);
+    }
+    match rule_at(reading, bytes, line) {
+        Some(rule) => rule_fault(reading, bytes, line, rule),
+        None => Some(UNKNOWN_WORD),
+    }
+}
+
+/// A word line closes the file.
+pub(crate) fn closes_file(reading: &Reading, bytes: &[u8], line: &Line) -> bool
+    ensures { result ≡ closes_file (reading_at bytes.now reading.now) (line_at bytes.now line.now) }
+{
+    match reading.below {
+        Below::Enclosed(_) => false,
+        Below::Words | Below::Rows => rule_at(reading, bytes, line).is_some_and(|rule| closes(
+            rule.role,
+        )),
+    }
+}

@@ -1,0 +1,33 @@
+//! The shape of the input files: which words stand in which block, with their rows, and the first fault of form.
+//!
+//! `read_shape` gives exactly the block of a file, or exactly its first fault of form. The words of the blocks are
+//! tables of data, which the definitions read too. Beside them stands what the readers of all files share: what is wrong
+//! with the word of a number, or with a list, and what a word stands for. It stands on dec_text.
+#![tactic(auto)]
+
+mod check;
+mod fault;
+mod keyword;
+pub mod kind;
+mod line_words;
+mod list;
+mod name;
+mod number;
+mod reader;
+mod reading;
+mod shape;
+mod table;
+
+pub use fault::{DeckFault, Fault};
+pub use keyword::Keyword;
+pub use list::{fault_if, has_other_length, names_repeat};
+pub use name::Name;
+pub use number::{
+    Number, ZERO, decimal_value, lesser, number_kind, numbers_kind, up_to_value, whole_value,
+};
+pub use reader::read_shape;
+pub use shape::{Block, Item, Shape};
+pub use table::BlockKind;
+
+#[cfg(test)]
+mod tests;

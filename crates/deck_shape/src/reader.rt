@@ -1,0 +1,108 @@
+ghost use Rattle.std.specs.Prelude.{◌≡◌, ◌+◌, ◌-◌, ◌^◌, ◌<◌, ◌≤◌, ℕ, List, [], IfOk, IfErr, IsSome, length, Ok, count_by};
+ghost use Rattle.dec_text.specs.Bytes.{is_line_feed};
+ghost use Rattle.dec_text.specs.Spans.{line_at};
+ghost use Rattle.deck_shape.specs.Blocks.{block_at};
+ghost use Rattle.deck_shape.specs.LineFaults.{block_of_text, fault_at, closes_file, line_count, read_below};
+ghost use Rattle.deck_shape.specs.Reading.{after_line, first_block};
+ghost use Rattle.deck_shape.specs.Shapes.{IsFaultOf, IsShapeOf};
+ghost use Rattle.deck_shape.specs.Views.{reading_at};
+
+use crate::check::{closes_file, fault_at, is_row, rule_at};
+use crate::fault::{DeckFault, Fault};
+use crate::kind::NOT_CLOSED;
+use crate::reading::{Reading, first_block};
+use crate::shape::{Block, Shape};
+use crate::table::BlockKind;
+use dec_text::{Line, split};
+use kmc_base::{FileId, Items, OutOfMemory};
+use std::alloc::Global;
+
+/// How many line ends a text has.
+fn line_feed_count(bytes: &[u8]) -> usize
+    ensures { result ≡ count_by is_line_feed bytes.now }
+{
+    bytes.iter().filter(|b| **b == b'\n').count()
+}
+
+/// How many lines a text has, those without words among them.
+fn line_count(bytes: &[u8]) -> usize
+    ensures value { result ≡ line_count bytes.now }
+    ensures few { result ≤ length bytes.now }
+{
+    let ended = line_feed_count(bytes);
+    match bytes {
+        [.., last] if *last != b'\n' => ended + 1,
+        _ => ended,
+    }
+}
+
+/// What is read of a file: a line without faults.
+fn after_line(
+    reading: Reading,
+    alloc: Global,
+    bytes: &[u8],
+    line: Line,
+) -> Result<Reading, OutOfMemory>
+    ensures { IfOk result (λ next. reading_at bytes.now next ≡ after_line (line_at bytes.now line) (reading_at bytes.now reading)) }
+{
+    if is_row(bytes, &line) {
+        return reading.after_row(alloc, line);
+    }
+    match rule_at(&reading, bytes, &line) {
+        Some(rule) => reading.after_word(alloc, bytes, line, rule.role),
+        None => Ok(reading),
+    }
+}
+
+/// A fault of a file.
+fn fault(file: FileId, line: u32, kind: u8) -> DeckFault
+    ensures { result ≡ DeckFault.Fault record { file = file; line = line; kind = kind } }
+{
+    DeckFault::Fault(Fault { file, line, kind })
+}
+
+/// The block of a file, or its first fault of form.
+fn read_block(
+    alloc: Global,
+    file: FileId,
+    kind: BlockKind,
+    bytes: &[u8],
+) -> Result<Block, DeckFault>
+    requires { length bytes.now < 2 ^ 32 - 1 }
+    ensures block { IfOk result (λ block. block_of_text kind bytes.now ≡ Ok (block_at bytes.now block)) }
+    ensures fault { IfErr result (IsFaultOf file (block_of_text kind bytes.now)) }
+{
+    let mut lines = split(alloc, bytes)?;
+    lines.reverse();
+    let mut reading = Reading::new(alloc, kind);
+    while let Some(line) = lines.pop() {
+        if let Some(kind) = fault_at(&reading, bytes, &line) {
+            return Err(fault(file, line.number, kind));
+        }
+        if closes_file(&reading, bytes, &line) {
+            return Ok(reading.close(line.number));
+        }
+        reading = after_line(reading, alloc, bytes, line)?;
+    }
+    Err(fault(file, line_count(bytes) as u32 + 1, NOT_CLOSED))
+}
+
+/// The shape of a file: its block with its word lines and rows, or its first fault of form.
+///
+/// The faults of form are `kind::STRAY_ROW` to `kind::UNKNOWN_LATTICE`. A file is read up to its first faulty line, or
+/// its closing word; of the kinds that hold at that line the least is the fault.
+pub fn read_shape(alloc: Global, file: FileId, bytes: &[u8]) -> Result<Shape, DeckFault>
+    requires known { IsSome (first_block file) }
+    requires short { length bytes.now < 2 ^ 32 - 1 }
+    ensures shape { IfOk result (IsShapeOf file bytes.now) }
+    ensures fault { (kind : BlockKind) → first_block file ≡ Some kind → IfErr result (IsFaultOf file (block_of_text kind bytes.now)) }
+{
+    let Some(kind) = first_block(file) else {
+        unreachable!();
+    };
+    let block = read_block(alloc, file, kind, bytes)?;
+    let blocks = Vec::from_array(alloc, [block])?;
+    Ok(Shape {
+        blocks: Items::new(blocks),
+    })
+}

@@ -1,0 +1,412 @@
+//! The words of each block of the input files, as data: the definitions and the reader go by these tables, and a
+//! further word is a further rule.
+
+ghost use Rattle.std.specs.Prelude.{◌≡◌};
+ghost use Rattle.deck_shape.specs.Tables.{rules_of};
+
+use crate::keyword::Keyword;
+
+/// A block of an input file.
+#[derive(Clone, Copy, Debug, PartialEq, Eq)]
+pub enum BlockKind {
+    /// Simulation_input.dat, which is a block as a whole.
+    Simulation,
+    /// Lattice_input.dat before its block is opened.
+    LatticeFile,
+    /// `lattice default_choice`.
+    DefaultChoice,
+    /// `lattice periodic_cell`.
+    PeriodicCell,
+    /// `lattice explicit`.
+    Explicit,
+    /// The rows of `neighboring_structure`.
+    NeighboringStructure,
+    /// The rows of `lattice_structure`.
+    LatticeStructure,
+}
+
+/// How many arguments a word takes.
+#[derive(Clone, Copy, Debug, PartialEq, Eq)]
+pub enum Arguments {
+    Exactly(usize),
+    /// From the first number to the second.
+    Between(usize, usize),
+    Any,
+}
+
+/// Whether a word has to stand in its block.
+#[derive(Clone, Copy, Debug, PartialEq, Eq)]
+pub enum Need {
+    Optional,
+    Required,
+    /// This word or the other one has to. The two count as one word.
+    ThisOr(Keyword),
+}
+
+/// What a word does.
+#[derive(Clone, Copy, Debug, PartialEq, Eq)]
+pub enum Role {
+    /// It has its value on its line.
+    Value,
+    /// It has rows below its line.
+    Rows,
+    /// It has rows below its line, up to the closing word of this block, which knows no other word.
+    Encloses(BlockKind),
+    /// It opens the block of the lattice file that its argument names.
+    BeginsLattice,
+    /// It closes its block.
+    Closes,
+    /// It is a word of Zacros that is refused.
+    Unsupported,
+}
+
+/// A word of a block.
+#[derive(Clone, Copy, Debug)]
+pub struct Rule {
+    pub keyword: Keyword,
+    pub arguments: Arguments,
+    /// It stands at most once in its block.
+    pub is_once: bool,
+    pub need: Need,
+    pub role: Role,
+}
+
+/// The words of simulation_input.dat, which is a block as a whole.
+pub const SIMULATION: [Rule; 21] = [
+    Rule {
+        keyword: Keyword::RandomSeed,
+        arguments: Arguments::Exactly(1),
+        is_once: true,
+        need: Need::Optional,
+        role: Role::Value,
+    },
+    Rule {
+        keyword: Keyword::Temperature,
+        arguments: Arguments::Exactly(1),
+        is_once: true,
+        need: Need::Required,
+        role: Role::Value,
+    },
+    Rule {
+        keyword: Keyword::Pressure,
+        arguments: Arguments::Exactly(1),
+        is_once: true,
+        need: Need::Required,
+        role: Role::Value,
+    },
+    Rule {
+        keyword: Keyword::NGasSpecies,
+        arguments: Arguments::Exactly(1),
+        is_once: true,
+        need: Need::Optional,
+        role: Role::Value,
+    },
+    Rule {
+        keyword: Keyword::GasSpecsNames,
+        arguments: Arguments::Any,
+        is_once: true,
+        need: Need::Optional,
+        role: Role::Value,
+    },
+    Rule {
+        keyword: Keyword::GasEnergies,
+        arguments: Arguments::Any,
+        is_once: true,
+        need: Need::Optional,
+        role: Role::Value,
+    },
+    Rule {
+        keyword: Keyword::GasMolecWeights,
+        arguments: Arguments::Any,
+        is_once: true,
+        need: Need::Optional,
+        role: Role::Value,
+    },
+    Rule {
+        keyword: Keyword::GasMolarFracs,
+        arguments: Arguments::Any,
+        is_once: true,
+        need: Need::Optional,
+        role: Role::Value,
+    },
+    Rule {
+        keyword: Keyword::NSurfSpecies,
+        arguments: Arguments::Exactly(1),
+        is_once: true,
+        need: Need::Optional,
+        role: Role::Value,
+    },
+    Rule {
+        keyword: Keyword::SurfSpecsNames,
+        arguments: Arguments::Any,
+        is_once: true,
+        need: Need::Optional,
+        role: Role::Value,
+    },
+    Rule {
+        keyword: Keyword::SurfSpecsDent,
+        arguments: Arguments::Any,
+        is_once: true,
+        need: Need::Optional,
+        role: Role::Value,
+    },
+    Rule {
+        keyword: Keyword::Snapshots,
+        arguments: Arguments::Between(1, 3),
+        is_once: true,
+        need: Need::Optional,
+        role: Role::Value,
+    },
+    Rule {
+        keyword: Keyword::ProcessStatistics,
+        arguments: Arguments::Between(1, 3),
+        is_once: true,
+        need: Need::Optional,
+        role: Role::Value,
+    },
+    Rule {
+        keyword: Keyword::SpeciesNumbers,
+        arguments: Arguments::Between(1, 3),
+        is_once: true,
+        need: Need::Optional,
+        role: Role::Value,
+    },
+    Rule {
+        keyword: Keyword::EventReport,
+        arguments: Arguments::Between(1, 3),
+        is_once: true,
+        need: Need::Optional,
+        role: Role::Value,
+    },
+    Rule {
+        keyword: Keyword::MaxSteps,
+        arguments: Arguments::Exactly(1),
+        is_once: true,
+        need: Need::Optional,
+        role: Role::Value,
+    },
+    Rule {
+        keyword: Keyword::MaxTime,
+        arguments: Arguments::Exactly(1),
+        is_once: true,
+        need: Need::Optional,
+        role: Role::Value,
+    },
+    Rule {
+        keyword: Keyword::WallTime,
+        arguments: Arguments::Exactly(1),
+        is_once: true,
+        need: Need::Optional,
+        role: Role::Value,
+    },
+    Rule {
+        keyword: Keyword::NoRestart,
+        arguments: Arguments::Exactly(0),
+        is_once: true,
+        need: Need::Optional,
+        role: Role::Value,
+    },
+    Rule {
+        keyword: Keyword::OverrideArrayBounds,
+        arguments: Arguments::Any,
+        is_once: true,
+        need: Need::Optional,
+        role: Role::Unsupported,
+    },
+    Rule {
+        keyword: Keyword::Finish,
+        arguments: Arguments::Exactly(0),
+        is_once: true,
+        need: Need::Optional,
+        role: Role::Closes,
+    },
+];
+
+/// The words of lattice_input.dat before its block is opened.
+pub const LATTICE_FILE: [Rule; 1] = [Rule {
+    keyword: Keyword::Lattice,
+    arguments: Arguments::Exactly(1),
+    is_once: true,
+    need: Need::Optional,
+    role: Role::BeginsLattice,
+}];
+
+/// The words of `lattice default_choice`.
+pub const DEFAULT_CHOICE: [Rule; 4] = [
+    Rule {
+        keyword: Keyword::RectangularPeriodic,
+        arguments: Arguments::Exactly(3),
+        is_once: true,
+        need: Need::ThisOr(Keyword::HexagonalPeriodic),
+        role: Role::Value,
+    },
+    Rule {
+        keyword: Keyword::HexagonalPeriodic,
+        arguments: Arguments::Exactly(3),
+        is_once: true,
+        need: Need::ThisOr(Keyword::RectangularPeriodic),
+        role: Role::Value,
+    },
+    Rule {
+        keyword: Keyword::TriangularPeriodic,
+        arguments: Arguments::Any,
+        is_once: true,
+        need: Need::Optional,
+        role: Role::Unsupported,
+    },
+    Rule {
+        keyword: Keyword::EndLattice,
+        arguments: Arguments::Exactly(0),
+        is_once: true,
+        need: Need::Optional,
+        role: Role::Closes,
+    },
+];
+
+/// The words of `lattice periodic_cell`.
+pub const PERIODIC_CELL: [Rule; 9] = [
+    Rule {
+        keyword: Keyword::CellVectors,
+        arguments: Arguments::Exactly(0),
+        is_once: true,
+        need: Need::Optional,
+        role: Role::Rows,
+    },
+    Rule {
+        keyword: Keyword::RepeatCell,
+        arguments: Arguments::Exactly(2),
+        is_once: true,
+        need: Need::Required,
+        role: Role::Value,
+    },
+    Rule {
+        keyword: Keyword::NCellSites,
+        arguments: Arguments::Exactly(1),
+        is_once: true,
+        need: Need::Required,
+        role: Role::Value,
+    },
+    Rule {
+        keyword: Keyword::NSiteTypes,
+        arguments: Arguments::Exactly(1),
+        is_once: true,
+        need: Need::Required,
+        role: Role::Value,
+    },
+    Rule {
+        keyword: Keyword::SiteTypeNames,
+        arguments: Arguments::Any,
+        is_once: true,
+        need: Need::Required,
+        role: Role::Value,
+    },
+    Rule {
+        keyword: Keyword::SiteTypes,
+        arguments: Arguments::Any,
+        is_once: true,
+        need: Need::Required,
+        role: Role::Value,
+    },
+    Rule {
+        keyword: Keyword::SiteCoordinates,
+        arguments: Arguments::Exactly(0),
+        is_once: true,
+        need: Need::Optional,
+        role: Role::Rows,
+    },
+    Rule {
+        keyword: Keyword::NeighboringStructure,
+        arguments: Arguments::Exactly(0),
+        is_once: true,
+        need: Need::Required,
+        role: Role::Encloses(BlockKind::NeighboringStructure),
+    },
+    Rule {
+        keyword: Keyword::EndLattice,
+        arguments: Arguments::Exactly(0),
+        is_once: true,
+        need: Need::Optional,
+        role: Role::Closes,
+    },
+];
+
+/// The words of `lattice explicit`.
+pub const EXPLICIT: [Rule; 6] = [
+    Rule {
+        keyword: Keyword::NSites,
+        arguments: Arguments::Exactly(1),
+        is_once: true,
+        need: Need::Required,
+        role: Role::Value,
+    },
+    Rule {
+        keyword: Keyword::MaxCoord,
+        arguments: Arguments::Exactly(1),
+        is_once: true,
+        need: Need::Optional,
+        role: Role::Value,
+    },
+    Rule {
+        keyword: Keyword::NSiteTypes,
+        arguments: Arguments::Exactly(1),
+        is_once: true,
+        need: Need::Required,
+        role: Role::Value,
+    },
+    Rule {
+        keyword: Keyword::SiteTypeNames,
+        arguments: Arguments::Any,
+        is_once: true,
+        need: Need::Required,
+        role: Role::Value,
+    },
+    Rule {
+        keyword: Keyword::LatticeStructure,
+        arguments: Arguments::Exactly(0),
+        is_once: true,
+        need: Need::Required,
+        role: Role::Encloses(BlockKind::LatticeStructure),
+    },
+    Rule {
+        keyword: Keyword::EndLattice,
+        arguments: Arguments::Exactly(0),
+        is_once: true,
+        need: Need::Optional,
+        role: Role::Closes,
+    },
+];
+
+/// The words of the rows of `neighboring_structure`.
+pub const NEIGHBORING_STRUCTURE: [Rule; 1] = [Rule {
+    keyword: Keyword::EndNeighboringStructure,
+    arguments: Arguments::Exactly(0),
+    is_once: true,
+    need: Need::Optional,
+    role: Role::Closes,
+}];
+
+/// The words of the rows of `lattice_structure`.
+pub const LATTICE_STRUCTURE: [Rule; 1] = [Rule {
+    keyword: Keyword::EndLatticeStructure,
+    arguments: Arguments::Exactly(0),
+    is_once: true,
+    need: Need::Optional,
+    role: Role::Closes,
+}];
+
+impl BlockKind {
+    /// The words of the block.
+    pub(crate) fn rules(self) -> &'static [Rule]
+        ensures { result.now ≡ rules_of self }
+    {
+        match self {
+            BlockKind::Simulation => &SIMULATION,
+            BlockKind::LatticeFile => &LATTICE_FILE,
+            BlockKind::DefaultChoice => &DEFAULT_CHOICE,
+            BlockKind::PeriodicCell => &PERIODIC_CELL,
+            BlockKind::Explicit => &EXPLICIT,
+            BlockKind::NeighboringStructure => &NEIGHBORING_STRUCTURE,
+            BlockKind::LatticeStructure => &LATTICE_STRUCTURE,
+        }
+    }
+}
