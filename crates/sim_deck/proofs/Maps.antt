@@ -1,0 +1,43 @@
+-- searches of the values of a list
+use Rattle.std.proofs.Common.{◌≡◌, ◌∙◌, sym, ℕ, ◌+◌, ◌<◌, append_assoc, add-one, drop, get_or, length, ◌||◌, ◌++◌, Bor, Option, None, Some, is_some, Bool, true, false, cond, List, [], ◌∷◌, map, refl, ap, IfSome}
+use Rattle.std.proofs.Math.Seq.{drop-cons}
+use Rattle.std.specs.List.{AllByRecursion, find, list_any}
+use Rattle.std.specs.Option.{option_copied, option_map}
+
+pub list_any-map : {X Y : Type 0} (p : X → Bool) (h : Y → X) (ys : List Y) → list_any p (map h ys) ≡ list_any (λ y. p (h y)) ys
+list_any-map p h [] = refl
+list_any-map p h (y ∷ ys) = ap (λ b. p (h y) || b) (list_any-map p h ys)
+
+-- a value that passes a test is found where some value passes it
+pub is_some-find : {X : Type 0} (p : X → Bool) (xs : List X) → is_some (find p xs) ≡ list_any p xs
+is_some-find p [] = refl
+is_some-find p (x ∷ xs) = elim (p x) as (λ b. is_some (cond b (Some x) (find p xs)) ≡ (b || list_any p xs)) [ true ↦ refl | false ↦ is_some-find p xs ]
+
+pub is_some-map : {X Y : Type 0} (h : X → Y) (r : Option X) → is_some r ≡ is_some (option_map h r)
+is_some-map h None = refl
+is_some-map h (Some x) = refl
+
+pub is_some-copied : {X : Type 0} (r : Option (Bor X)) → is_some r ≡ is_some (option_copied r)
+is_some-copied None = refl
+is_some-copied (Some x) = refl
+
+-- what holds of each member holds of the one that is found
+pub IfSome-find : {X : Type 0} (P : X → Type 0) (p : X → Bool) (xs : List X) → AllByRecursion P xs → IfSome (find p xs) P
+IfSome-find P p [] all = tt
+IfSome-find P p (x ∷ xs) all = elim (p x) as (λ b. IfSome (cond b (Some x) (find p xs)) P) [ true ↦ all.0 | false ↦ IfSome-find P p xs all.1 ]
+
+pub all-pushed : {X : Type 0} (P : X → Type 0) (xs : List X) (x : X) → AllByRecursion P xs → P x → AllByRecursion P (xs ++ x ∷ [])
+all-pushed P [] x all here = (here, tt)
+all-pushed P (y ∷ ys) x all here = (all.0, all-pushed P ys x all.1 here)
+
+-- one value more, and those of the members that are left
+pub more_mapped : {W X Y : Type 0} (f : X → Y) (h : W → X) (before after : List Y) (words : List W) (i : ℕ) (y : Y) (d : W)
+    → i < length words → after ≡ before ++ y ∷ [] → y ≡ f (h (get_or words i d))
+    → after ++ map f (map h (drop (i + 1) words)) ≡ before ++ map f (map h (drop i words))
+more_mapped f h before after words i y d here pushed same =
+    let rest = map f (map h (drop (i + 1) words)) in
+    let next : drop i words ≡ get_or words i d ∷ drop (i + 1) words = drop-cons words i d here ∙ ap (λ j. get_or words i d ∷ drop j words) (sym (add-one i)) in
+    ap (λ values. values ++ rest) pushed
+    ∙ append_assoc before (y ∷ []) rest
+    ∙ ap (λ z. before ++ z ∷ rest) same
+    ∙ ap (λ ws. before ++ map f (map h ws)) (sym next)

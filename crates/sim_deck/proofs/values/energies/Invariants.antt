@@ -1,0 +1,12 @@
+use Rattle.std.proofs.Common.{◌≡◌, ◌≤◌, ◌^◌, ◌++◌, drop, map, unsigned_abs}
+use Rattle.std.specs.List.{AllByRecursion}
+use Rattle.dec_text.specs.Spans.{bytes_at}
+use Rattle.sim_deck.specs.Values.{energy_of}
+use Rattle.sim_deck.proofs.values.energies.Given as goal
+
+-- the values so far, and those that are left, are all of them
+abbrev pub invariant-loop-word : goal.invariant-loop-word
+invariant-loop-word l = record {
+  done : l.all.items ++ map energy_of (map (bytes_at l.bytes) (drop l.word-index l.words)) ≡ map energy_of (map (bytes_at l.bytes) l.words);
+  range : AllByRecursion (λ e. unsigned_abs e ≤ 10 ^ 12) l.all.items;
+}

@@ -1,0 +1,7 @@
+pub mod Faults
+pub mod Forms
+pub mod Lists
+pub mod Samplings
+pub mod Soundness
+pub mod Values
+pub mod Views

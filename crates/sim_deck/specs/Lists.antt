@@ -1,0 +1,33 @@
+-- The lists of the simulation file: a member for each species of a kind.
+use Rattle.std.specs.Prelude.{ℕ, ◌||◌, Bool, false, List, length, Option, None, Some, codes, nat_lt}
+use Rattle.std.specs.List.{list_any}
+use Rattle.deck_shape.specs.Lists.{fault_if, has_other_length, names_repeat}
+use Rattle.deck_shape.specs.Tables.{same_word}
+use Rattle.deck_shape.specs.declared.kind.TheConstants.{BAD_NAME, LIST_LENGTH, REPEATED_NAME}
+use Rattle.deck_shape.specs.Numbers.{lesser}
+use Rattle.sim_deck.specs.declared.forms.Count.{Count}
+use Rattle.sim_deck.specs.declared.forms.Count.TheVariants.{Gas, Surface}
+
+-- how many species there are of each kind; None where that number has a fault
+pub record Counts : Type 0 where
+  pub gas : Option ℕ
+  pub surface : Option ℕ
+
+abbrev pub count_of : Counts → Count → Option ℕ
+count_of counts Gas = counts.gas
+count_of counts Surface = counts.surface
+
+-- the names that no species has: `*` and `&`
+abbrev pub is_bad_name : List ℕ → Bool
+is_bad_name name = same_word name (codes "*") || same_word name (codes "&")
+
+-- the fault of a list of names
+abbrev pub names_kind : Option ℕ → List (List ℕ) → Option ℕ
+names_kind count names =
+    lesser (fault_if (has_other_length count (length names)) LIST_LENGTH)
+    (lesser (fault_if (names_repeat names) REPEATED_NAME) (fault_if (list_any is_bad_name names) BAD_NAME))
+
+-- a list that is absent should have members
+abbrev pub has_members : Option ℕ → Bool
+has_members None = false
+has_members (Some count) = nat_lt 0 count

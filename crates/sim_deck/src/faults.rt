@@ -1,0 +1,194 @@
+ghost use Rattle.std.specs.Prelude.{◌≡◌, ℕ, List, IfSome, None, map};
+ghost use Rattle.std.specs.List.{find, list_any};
+ghost use Rattle.std.specs.Option.{option_copied, option_map};
+ghost use Rattle.dec_text.specs.Spans.{bytes_at};
+ghost use Rattle.deck_shape.specs.Blocks.{block_at, item_at, stands};
+ghost use Rattle.deck_shape.specs.Tables.{is_spelled};
+ghost use Rattle.sim_deck.specs.declared.forms.TheConstants.{FORMS as ENTRIES, NEEDED_LISTS as LISTS};
+ghost use Rattle.sim_deck.specs.Faults.{closing_kind, count_in, counts_in, fault_among, first_fault, form_kind, form_of, is_absent, is_infinity, item_kind, sound_count, words_behind, words_of};
+ghost use Rattle.sim_deck.specs.Views.{counts_at};
+ghost use Rattle.sim_deck.specs.Forms.{IsForm};
+
+use crate::forms::{FORMS, Form, MOST_SPECIES, NEEDED_LISTS, NeededList, SPECIES_COUNT, WordForm};
+use crate::lists::{Counts, has_members, names_kind};
+use crate::samplings::sampling_kind;
+use dec_text::Span;
+use deck_shape::kind::LIST_LENGTH;
+use deck_shape::{
+    Block, Item, Keyword, fault_if, has_other_length, lesser, numbers_kind, whole_value,
+};
+
+/// The words behind the keyword of a line.
+fn words_of(item: &Item) -> &[Span]
+    ensures { (text : List ℕ) → map (bytes_at text) result.now ≡ words_of (item_at text item.now) }
+{
+    item.arguments()
+}
+
+/// The words behind a keyword of the file, where the keyword stands.
+pub(crate) fn words_behind<'a>(
+    block: &'a Block,
+    bytes: &[u8],
+    keyword: Keyword,
+) -> Option<&'a [Span]>
+    ensures { option_map (λ words. map (bytes_at bytes.now) words.now) result ≡ words_behind keyword (block_at bytes.now block.now).items }
+{
+    match block.item(bytes, keyword) {
+        Some(item) => Some(words_of(item)),
+        None => None,
+    }
+}
+
+/// The words are `infinity` alone.
+pub(crate) fn is_infinity(bytes: &[u8], words: &[Span]) -> bool
+    ensures { result ≡ is_infinity (map (bytes_at bytes.now) words.now) }
+{
+    match words {
+        [word] => word.bytes(bytes) == b"infinity".as_slice(),
+        _ => false,
+    }
+}
+
+/// The entry of a word in the table of forms.
+fn entry_of(word: &[u8]) -> Option<&'static WordForm>
+    ensures { option_copied result ≡ find (λ f. is_spelled f.keyword word.now) ENTRIES }
+{
+    FORMS.iter().find(|entry| entry.keyword.spelling() == word)
+}
+
+/// The form of a word.
+fn form_of(word: &[u8]) -> Option<Form>
+    ensures value { result ≡ form_of word.now }
+    ensures sound { IfSome result IsForm }
+{
+    match entry_of(word) {
+        Some(entry) => Some(entry.form),
+        None => None,
+    }
+}
+
+/// The fault of the words behind a keyword of this form.
+fn form_kind(counts: &Counts, form: Form, bytes: &[u8], words: &[Span]) -> Option<u8>
+    requires { IsForm form }
+    ensures { result ≡ form_kind (counts_at counts.now) form (map (bytes_at bytes.now) words.now) }
+{
+    match form {
+        Form::Number(number) => numbers_kind(number, bytes, words),
+        Form::NumberOrInfinity(_) if is_infinity(bytes, words) => None,
+        Form::NumberOrInfinity(number) => numbers_kind(number, bytes, words),
+        Form::Numbers(number, count) => {
+            let length = has_other_length(counts.of(count), words.len());
+            lesser(
+                numbers_kind(number, bytes, words),
+                fault_if(length, LIST_LENGTH),
+            )
+        }
+        Form::Names(count) => names_kind(counts.of(count), bytes, words),
+        Form::Sampling => sampling_kind(bytes, words),
+        Form::Free => None,
+    }
+}
+
+/// The fault of a line.
+fn item_kind(counts: &Counts, bytes: &[u8], item: &Item) -> Option<u8>
+    ensures { result ≡ item_kind (counts_at counts.now) (item_at bytes.now item.now) }
+{
+    let form = form_of(item.head(bytes))?;
+    form_kind(counts, form, bytes, words_of(item))
+}
+
+/// A keyword stands in the file.
+fn stands(block: &Block, bytes: &[u8], keyword: Keyword) -> bool
+    ensures { result ≡ stands keyword (block_at bytes.now block.now).items }
+{
+    block.item(bytes, keyword).is_some()
+}
+
+/// This list should have members, and is absent.
+fn is_absent(counts: &Counts, block: &Block, bytes: &[u8], needed: &NeededList) -> bool
+    ensures { result ≡ is_absent (counts_at counts.now) (block_at bytes.now block.now).items needed.now }
+{
+    has_members(counts.of(needed.count)) && !stands(block, bytes, needed.keyword)
+}
+
+/// Some list that should have members is absent.
+fn any_is_absent(counts: &Counts, block: &Block, bytes: &[u8]) -> bool
+    ensures { result ≡ list_any (is_absent (counts_at counts.now) (block_at bytes.now block.now).items) LISTS }
+{
+    NEEDED_LISTS
+        .iter()
+        .any(|needed| is_absent(counts, block, bytes, needed))
+}
+
+/// The fault of the closing line.
+fn closing_kind(counts: &Counts, block: &Block, bytes: &[u8]) -> Option<u8>
+    ensures { result ≡ closing_kind (counts_at counts.now) (block_at bytes.now block.now).items }
+{
+    fault_if(any_is_absent(counts, block, bytes), LIST_LENGTH)
+}
+
+/// The number of species that some words state, where they have no fault.
+fn sound_count(bytes: &[u8], words: &[Span]) -> Option<u64>
+    ensures { result ≡ sound_count (map (bytes_at bytes.now) words.now) }
+{
+    let [word, ..] = words else {
+        return Some(0);
+    };
+    match numbers_kind(SPECIES_COUNT, bytes, words) {
+        None => Some(whole_value(0, MOST_SPECIES, 0, word.bytes(bytes))),
+        Some(_) => None,
+    }
+}
+
+/// A number of species that has no fault: that of the line which states it, or 0.
+fn count_in(block: &Block, bytes: &[u8], keyword: Keyword) -> Option<u64>
+    ensures { result ≡ count_in keyword (block_at bytes.now block.now).items }
+{
+    match words_behind(block, bytes, keyword) {
+        Some(words) => sound_count(bytes, words),
+        None => Some(0),
+    }
+}
+
+/// How many species there are of each kind.
+fn counts_in(block: &Block, bytes: &[u8]) -> Counts
+    ensures { counts_at result ≡ counts_in (block_at bytes.now block.now).items }
+{
+    Counts {
+        gas: count_in(block, bytes, Keyword::NGasSpecies),
+        surface: count_in(block, bytes, Keyword::NSurfSpecies),
+    }
+}
+
+/// The first fault of the word lines: its line and its kind.
+fn fault_among(counts: &Counts, bytes: &[u8], items: &[Item]) -> Option<(u32, u8)>
+    ensures { result ≡ fault_among (counts_at counts.now) (map (item_at bytes.now) items.now) None }
+{
+    for item in items {
+        if let Some(kind) = item_kind(counts, bytes, item) {
+            return Some((item.line.number, kind));
+        }
+    }
+    None
+}
+
+/// The closing line and its fault.
+fn closing_fault(counts: &Counts, block: &Block, bytes: &[u8]) -> Option<(u32, u8)>
+    ensures { result ≡ option_map (λ kind. (block.now.end_line, kind)) (closing_kind (counts_at counts.now) (block_at bytes.now block.now).items) }
+{
+    match closing_kind(counts, block, bytes) {
+        Some(kind) => Some((block.end_line, kind)),
+        None => None,
+    }
+}
+
+/// The first fault of the values of a simulation file: its line and its kind.
+pub(crate) fn first_fault(block: &Block, bytes: &[u8]) -> Option<(u32, u8)>
+    ensures { result ≡ first_fault (block_at bytes.now block.now) }
+{
+    let counts = counts_in(block, bytes);
+    match fault_among(&counts, bytes, block.items.as_slice()) {
+        Some(fault) => Some(fault),
+        None => closing_fault(&counts, block, bytes),
+    }
+}

@@ -1,0 +1,186 @@
+//! What the words of the simulation file take as values, as data: the definitions and the reader go by these tables.
+
+use deck_shape::{Keyword, Number};
+
+/// Which number of species a list has members for.
+#[derive(Clone, Copy, Debug, PartialEq, Eq)]
+pub enum Count {
+    Gas,
+    Surface,
+}
+
+/// What a word takes as its arguments.
+#[derive(Clone, Copy, Debug, PartialEq, Eq)]
+pub enum Form {
+    Number(Number),
+    /// A number, or `infinity`.
+    NumberOrInfinity(Number),
+    /// A number for each species.
+    Numbers(Number, Count),
+    /// A name for each species.
+    Names(Count),
+    /// When an output is sampled.
+    Sampling,
+    /// Words that are used for nothing.
+    Free,
+}
+
+/// A word and its form.
+#[derive(Clone, Copy, Debug)]
+pub struct WordForm {
+    pub keyword: Keyword,
+    pub form: Form,
+}
+
+/// A list that has to be there where there are species of its kind.
+#[derive(Clone, Copy, Debug)]
+pub struct NeededList {
+    pub keyword: Keyword,
+    pub count: Count,
+}
+
+/// The greatest number of events.
+pub const MOST_EVENTS: u64 = 1_099_511_627_775;
+
+/// The greatest time, in as.
+pub const MOST_TIME: i128 = 1_000_000_000_000_000_000_000_000_000_000;
+
+/// The greatest number of species of a kind.
+pub const MOST_SPECIES: u64 = 64;
+
+/// A number of species.
+pub const SPECIES_COUNT: Number = Number::Whole(0, 64);
+
+/// A temperature, in mK.
+pub const TEMPERATURE: Number = Number::Scaled(3, 1, 10_000_000);
+
+/// A pressure, in bar.
+pub const PRESSURE: Number = Number::UpTo(9);
+
+/// An energy, in neV.
+pub const ENERGY: Number = Number::Scaled(9, -1_000_000_000_000, 1_000_000_000_000);
+
+/// A molar fraction.
+pub const FRACTION: Number = Number::UpTo(0);
+
+/// A number of dentates.
+pub const DENTATES: Number = Number::Whole(1, 8);
+
+/// A seed, or a wall time.
+pub const ANY_WHOLE: Number = Number::Whole(0, 18_446_744_073_709_551_615);
+
+/// A greatest number of events.
+pub const EVENT_LIMIT: Number = Number::Whole(0, 1_099_511_627_775);
+
+/// A greatest time, in as.
+pub const TIME_LIMIT: Number = Number::Scaled(18, 0, 1_000_000_000_000_000_000_000_000_000_000);
+
+/// A period of events.
+pub const EVENT_PERIOD: Number = Number::Whole(1, 1_099_511_627_775);
+
+/// A period of time, in as.
+pub const TIME_PERIOD: Number = Number::Scaled(18, 1, 1_000_000_000_000_000_000_000_000_000_000);
+
+/// The forms of the words that have a value.
+pub const FORMS: [WordForm; 19] = [
+    WordForm {
+        keyword: Keyword::RandomSeed,
+        form: Form::Number(ANY_WHOLE),
+    },
+    WordForm {
+        keyword: Keyword::Temperature,
+        form: Form::Number(TEMPERATURE),
+    },
+    WordForm {
+        keyword: Keyword::Pressure,
+        form: Form::Number(PRESSURE),
+    },
+    WordForm {
+        keyword: Keyword::NGasSpecies,
+        form: Form::Number(SPECIES_COUNT),
+    },
+    WordForm {
+        keyword: Keyword::GasSpecsNames,
+        form: Form::Names(Count::Gas),
+    },
+    WordForm {
+        keyword: Keyword::GasEnergies,
+        form: Form::Numbers(ENERGY, Count::Gas),
+    },
+    WordForm {
+        keyword: Keyword::GasMolecWeights,
+        form: Form::Numbers(Number::Unused, Count::Gas),
+    },
+    WordForm {
+        keyword: Keyword::GasMolarFracs,
+        form: Form::Numbers(FRACTION, Count::Gas),
+    },
+    WordForm {
+        keyword: Keyword::NSurfSpecies,
+        form: Form::Number(SPECIES_COUNT),
+    },
+    WordForm {
+        keyword: Keyword::SurfSpecsNames,
+        form: Form::Names(Count::Surface),
+    },
+    WordForm {
+        keyword: Keyword::SurfSpecsDent,
+        form: Form::Numbers(DENTATES, Count::Surface),
+    },
+    WordForm {
+        keyword: Keyword::Snapshots,
+        form: Form::Sampling,
+    },
+    WordForm {
+        keyword: Keyword::ProcessStatistics,
+        form: Form::Sampling,
+    },
+    WordForm {
+        keyword: Keyword::SpeciesNumbers,
+        form: Form::Sampling,
+    },
+    WordForm {
+        keyword: Keyword::EventReport,
+        form: Form::Free,
+    },
+    WordForm {
+        keyword: Keyword::MaxSteps,
+        form: Form::NumberOrInfinity(EVENT_LIMIT),
+    },
+    WordForm {
+        keyword: Keyword::MaxTime,
+        form: Form::NumberOrInfinity(TIME_LIMIT),
+    },
+    WordForm {
+        keyword: Keyword::WallTime,
+        form: Form::NumberOrInfinity(ANY_WHOLE),
+    },
+    WordForm {
+        keyword: Keyword::NoRestart,
+        form: Form::Free,
+    },
+];
+
+/// The lists that have to be there where there are species of their kind.
+pub const NEEDED_LISTS: [NeededList; 5] = [
+    NeededList {
+        keyword: Keyword::GasSpecsNames,
+        count: Count::Gas,
+    },
+    NeededList {
+        keyword: Keyword::GasEnergies,
+        count: Count::Gas,
+    },
+    NeededList {
+        keyword: Keyword::GasMolarFracs,
+        count: Count::Gas,
+    },
+    NeededList {
+        keyword: Keyword::SurfSpecsNames,
+        count: Count::Surface,
+    },
+    NeededList {
+        keyword: Keyword::SurfSpecsDent,
+        count: Count::Surface,
+    },
+];

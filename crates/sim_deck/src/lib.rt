@@ -1,0 +1,19 @@
+//! The values of the simulation file.
+//!
+//! `read` gives exactly the values of a file of the right shape, or exactly its first fault of a value. The forms of
+//! the words are tables of data, which the definitions read too. It stands on deck_shape.
+#![tactic(auto)]
+
+mod faults;
+mod forms;
+mod lists;
+mod part;
+mod reader;
+mod samplings;
+mod values;
+
+pub use part::{Plan, Sampling, SimPart};
+pub use reader::read;
+
+#[cfg(test)]
+mod tests;

@@ -1,0 +1,64 @@
+ghost use Rattle.std.specs.Prelude.{◌≡◌, length, map};
+ghost use Rattle.std.specs.List.{list_any};
+ghost use Rattle.dec_text.specs.Spans.{bytes_at};
+ghost use Rattle.deck_shape.specs.Tables.{same_word};
+ghost use Rattle.deck_shape.specs.Lists.{fault_if, has_other_length, names_repeat};
+ghost use Rattle.sim_deck.specs.Lists.{count_of, has_members, is_bad_name, names_kind};
+ghost use Rattle.sim_deck.specs.Views.{counts_at};
+
+use crate::forms::Count;
+use dec_text::Span;
+use deck_shape::kind::{BAD_NAME, LIST_LENGTH, REPEATED_NAME};
+use deck_shape::{fault_if, has_other_length, lesser, names_repeat};
+
+/// How many species there are of each kind; `None` where that number has a fault.
+#[derive(Clone, Copy, Debug)]
+pub(crate) struct Counts {
+    pub(crate) gas: Option<u64>,
+    pub(crate) surface: Option<u64>,
+}
+
+impl Counts {
+    pub(crate) fn of(&self, count: Count) -> Option<u64>
+        ensures { result ≡ count_of (counts_at self.now) count }
+    {
+        match count {
+            Count::Gas => self.gas,
+            Count::Surface => self.surface,
+        }
+    }
+}
+
+/// A list that is absent should have members.
+pub(crate) fn has_members(count: Option<u64>) -> bool
+    ensures { result ≡ has_members count }
+{
+    match count {
+        Some(count) => count > 0,
+        None => false,
+    }
+}
+
+/// A name is one that no species has.
+fn is_bad_name(name: &[u8]) -> bool
+    ensures { result ≡ is_bad_name name.now }
+{
+    matches!(name, b"*" | b"&")
+}
+
+/// Some name is one that no species has.
+fn any_is_bad(bytes: &[u8], names: &[Span]) -> bool
+    ensures { result ≡ list_any is_bad_name (map (bytes_at bytes.now) names.now) }
+{
+    names.iter().any(|name| is_bad_name(name.bytes(bytes)))
+}
+
+/// The fault of a list of names.
+pub(crate) fn names_kind(count: Option<u64>, bytes: &[u8], names: &[Span]) -> Option<u8>
+    ensures { result ≡ names_kind count (map (bytes_at bytes.now) names.now) }
+{
+    let length = fault_if(has_other_length(count, names.len()), LIST_LENGTH);
+    let repeated = fault_if(names_repeat(bytes, names), REPEATED_NAME);
+    let bad = fault_if(any_is_bad(bytes, names), BAD_NAME);
+    lesser(length, lesser(repeated, bad))
+}

@@ -1,0 +1,47 @@
+ghost use Rattle.std.specs.Prelude.{◌≡◌, ◌∷◌, [], IfErr, IfOk, Ok, map};
+ghost use Rattle.deck_shape.specs.Blocks.{BlockLines, block_at};
+ghost use Rattle.deck_shape.specs.Shapes.{IsFaultOf, IsShapeOf};
+ghost use Rattle.kmc_base.specs.declared.ids.FileId.TheVariants.{Simulation};
+ghost use Rattle.sim_deck.specs.Soundness.{IsSoundPart};
+ghost use Rattle.sim_deck.specs.Values.{part_of, values_at};
+
+use crate::faults::first_fault;
+use crate::part::SimPart;
+use crate::values::values_of;
+use deck_shape::{Block, DeckFault, Fault, Shape};
+use kmc_base::FileId;
+use std::alloc::Global;
+
+/// The values of a block, or its first fault.
+fn read_block(alloc: Global, bytes: &[u8], block: &Block) -> Result<SimPart, DeckFault>
+    ensures values { IfOk result (λ part. part_of (block_at bytes.now block.now) ≡ Ok (values_at bytes.now part)) }
+    ensures sound { IfOk result (λ part. IsSoundPart (values_at bytes.now part)) }
+    ensures fault { IfErr result (IsFaultOf Simulation (part_of (block_at bytes.now block.now))) }
+{
+    if let Some((line, kind)) = first_fault(block, bytes) {
+        return Err(DeckFault::Fault(Fault {
+            file: FileId::Simulation,
+            line,
+            kind,
+        }));
+    }
+    Ok(values_of(alloc, block, bytes)?)
+}
+
+/// The values of a simulation file, or its first fault of a value.
+///
+/// The faults are `kind::NOT_NUMBER` to `kind::BAD_NAME`; of the kinds that hold at the first faulty line the least is
+/// the fault. A list is measured by the number of species where that has no fault.
+pub fn read(alloc: Global, bytes: &[u8], shape: &Shape) -> Result<SimPart, DeckFault>
+    requires { IsShapeOf Simulation bytes.now shape.now }
+    ensures values { (block : BlockLines) → map (block_at bytes.now) shape.now.blocks ≡ block ∷ []
+        → IfOk result (λ part. part_of block ≡ Ok (values_at bytes.now part)) }
+    ensures sound { IfOk result (λ part. IsSoundPart (values_at bytes.now part)) }
+    ensures fault { (block : BlockLines) → map (block_at bytes.now) shape.now.blocks ≡ block ∷ []
+        → IfErr result (IsFaultOf Simulation (part_of block)) }
+{
+    match shape.blocks.as_slice() {
+        [block] => read_block(alloc, bytes, block),
+        _ => unreachable!(),
+    }
+}

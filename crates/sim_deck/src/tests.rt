@@ -1,0 +1,146 @@
+use crate::{Plan, Sampling, SimPart, read};
+use dec_text::Decimal;
+use deck_shape::{DeckFault, Fault, read_shape};
+use kmc_base::FileId;
+use std::alloc::Global;
+use std::test::Fail;
+
+/// The values of a short text, or its first fault of form or of a value.
+fn read_text(alloc: Global, text: &[u8]) -> Result<SimPart, DeckFault> {
+    if text.len() > 4096 {
+        return Err(DeckFault::OutOfMemory);
+    }
+    let shape = read_shape(alloc, FileId::Simulation, text)?;
+    read(alloc, text, &shape)
+}
+
+/// The line and the kind of the fault of a text.
+fn fault_of(alloc: Global, text: &[u8]) -> Option<(u32, u8)> {
+    match read_text(alloc, text) {
+        Err(DeckFault::Fault(Fault { line, kind, .. })) => Some((line, kind)),
+        _ => None,
+    }
+}
+
+#[test]
+fn answers_the_first_fault(rt: HostRuntime) -> Result<(), Fail> {
+    let alloc = rt.alloc();
+    for (lines, line, kind) in [
+        ("max_time x\n", 1, 11),
+        ("snapshots on time x\n", 1, 11),
+        ("n_gas_species 2\ngas_molar_fracs 2.0 x\n", 2, 11),
+        ("random_seed 18446744073709551616\n", 1, 12),
+        ("snapshots on event x\n", 1, 12),
+        ("snapshots on event 0\n", 1, 13),
+        ("max_time 1.1e12\n", 1, 13),
+        ("n_gas_species 1\ngas_molar_fracs 1.1\n", 2, 13),
+        ("snapshots on\n", 1, 14),
+        ("snapshots on time\n", 1, 14),
+        ("snapshots off off\n", 1, 14),
+        ("snapshots sometimes\n", 1, 14),
+        ("n_gas_species 2\ngas_specs_names A\n", 2, 15),
+        ("n_surf_species 1\n", 4, 15),
+        ("n_gas_species 2\ngas_specs_names A A\n", 2, 18),
+        ("n_gas_species 1\ngas_specs_names *\n", 2, 19),
+        ("n_surf_species 1\nsurf_specs_names &\n", 2, 19),
+        ("random_seed -1\nmax_time x\n", 1, 12),
+        ("max_time x\nrandom_seed -1\n", 1, 11),
+        ("gas_specs_names A B\nn_gas_species 65\n", 2, 13),
+    ] {
+        let text = format!(in alloc; "{lines}temperature 500.0\npressure 1.0\nfinish\n")?;
+        assert_eq!(rt;
+            fault_of(alloc, text.as_bytes()),
+            Some((line, kind)),
+            "{lines}"
+        );
+    }
+    let cold = b"temperature 0.0004\npressure 1.0\nfinish\n";
+    assert_eq!(rt; fault_of(alloc, cold), Some((1, 13)));
+    Ok(())
+}
+
+#[test]
+fn measures_each_list(rt: HostRuntime) -> Result<(), Fail> {
+    let alloc = rt.alloc();
+    for (dentates, fault) in [("1", None), ("1 1", Some((10, 15)))] {
+        let text = format!(in alloc;
+            "random_seed 1\ntemperature 500.0\npressure 1.0\nn_gas_species 1\ngas_specs_names A\ngas_energies 0.0\ngas_molar_fracs 1.0\nn_surf_species 1\nsurf_specs_names A*\nsurf_specs_dent {dentates}\nfinish\n"
+        )?;
+        assert_eq!(rt; fault_of(alloc, text.as_bytes()), fault);
+    }
+    Ok(())
+}
+
+#[test]
+fn takes_defaults(rt: HostRuntime) -> Result<(), Fail> {
+    let alloc = rt.alloc();
+    let bare = read_text(alloc, b"temperature 500.0\npressure -0.0\nfinish\n")?;
+    let open = Plan {
+        seed: 0,
+        max_steps: 1_099_511_627_775,
+        max_time: None,
+        history: Sampling::Off,
+        procstat: Sampling::Off,
+        specnum: Sampling::Off,
+    };
+    assert_eq!(rt; bare.plan, open);
+    assert_eq!(rt;
+        bare.pressure,
+        Decimal {
+            negative: false,
+            digits: 0,
+            power: 0
+        }
+    );
+    let long = read_text(
+        alloc,
+        b"temperature 500.0\npressure 1.0\nmax_steps infinity\nmax_time 1e12\nfinish\n",
+    )?;
+    assert_eq!(rt; long.plan.max_steps, 1_099_511_627_775);
+    assert_eq!(rt;
+        long.plan.max_time,
+        Some(1_000_000_000_000_000_000_000_000_000_000)
+    );
+    Ok(())
+}
+
+#[test]
+fn reads_all_words(rt: HostRuntime) -> Result<(), Fail> {
+    let alloc = rt.alloc();
+    let text =
+        b"random_seed 953129\ntemperature 500.0\npressure 1.00\nn_gas_species 3\ngas_specs_names CO O2 CO2\ngas_energies 0.000 0.000 -2.337\ngas_molec_weights 27.9949 31.9898 43.9898\ngas_molar_fracs 0.45 0.55 0.000\nn_surf_species 2\nsurf_specs_names CO* O*\nsurf_specs_dent 1 1\nsnapshots on event 100\nprocess_statistics on event 100\nspecies_numbers on time 1.0e-6\nevent_report off\nmax_steps 500\nmax_time 1.0\nwall_time 3600\nno_restart\nfinish\n";
+    let part = read_text(alloc, text)?;
+    let plan = Plan {
+        seed: 953_129,
+        max_steps: 500,
+        max_time: Some(1_000_000_000_000_000_000),
+        history: Sampling::Event(100),
+        procstat: Sampling::Event(100),
+        specnum: Sampling::Time(1_000_000_000_000),
+    };
+    assert_eq!(rt; part.plan, plan);
+    assert_eq!(rt; part.temperature, 500_000);
+    assert_eq!(rt;
+        part.gas_energies.as_slice(),
+        [0, 0, -2_337_000_000].as_slice()
+    );
+    assert_eq!(rt; part.dentates.as_slice(), [1, 1].as_slice());
+    assert_eq!(rt; part.gas_fractions.len(), 3);
+    if let [_, half, _] = part.gas_fractions.as_slice() {
+        assert_eq!(rt;
+            *half,
+            Decimal {
+                negative: false,
+                digits: 55,
+                power: -2
+            }
+        );
+    }
+    assert_eq!(rt; part.surface.len(), 2);
+    assert_eq!(rt; part.gas.len(), 3);
+    if let [_, oxygen, _] = part.gas.as_slice() {
+        assert_eq!(rt; oxygen.span.bytes(text), b"O2".as_slice());
+        assert_eq!(rt; oxygen.line, 5);
+    }
+    Ok(())
+}
