@@ -1,0 +1,4 @@
+pub mod CellNumbers
+pub mod Joining
+pub mod Merged
+pub mod Named

@@ -1,0 +1,4 @@
+pub mod Cells
+pub mod Default
+pub mod Naming
+pub mod Periodic

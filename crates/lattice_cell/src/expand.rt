@@ -1,0 +1,108 @@
+ghost use Rattle.std.specs.Prelude.{◌≡◌, ◌*◌, ◌≤◌, ◌⊎◌, All, IfOk, IfErr, Some, None, length, vec_len};
+ghost use Rattle.lattice_core.specs.declared.fault.GraphFault.TheVariants.{OutOfMemory};
+ghost use Rattle.lattice_core.specs.Fault.{first_fault, lattice_from};
+ghost use Rattle.lattice_core.specs.SiteList.{number_lists};
+ghost use Rattle.lattice_cell.specs.Cells.{IsInCell};
+ghost use Rattle.lattice_cell.specs.Default.{default_lattice};
+ghost use Rattle.lattice_cell.specs.Periodic.{periodic_lattice};
+
+use crate::cell::{Join, Toward};
+use crate::neighbours::neighbour_lists;
+use crate::repeats::Repeats;
+use kmc_base::{MAX_SITES, SiteId};
+use lattice_core::{Graph, GraphFault};
+use std::alloc::Global;
+
+/// A lattice that has a name. Each of its cells has one site, of type 1.
+#[derive(Clone, Copy, Debug, PartialEq, Eq, Hash)]
+pub enum DefaultLattice {
+    /// Each site has the next one in either direction as neighbours.
+    Rectangular,
+    /// It also has the next one in both directions at once.
+    Hexagonal,
+}
+
+const NORTH: Join = Join {
+    from: 0,
+    to: 0,
+    toward: Toward::North,
+};
+
+const EAST: Join = Join {
+    from: 0,
+    to: 0,
+    toward: Toward::East,
+};
+
+const NORTHEAST: Join = Join {
+    from: 0,
+    to: 0,
+    toward: Toward::Northeast,
+};
+
+/// The lattice of a cell that is repeated `nx` times in the first direction and `ny` times in the second, around the
+/// edges, or the first fault of the neighbours.
+///
+/// Its work grows with the number of cells times the number of joins.
+pub fn expand_periodic(
+    alloc: Global,
+    nx: u32,
+    ny: u32,
+    types: &[u16],
+    joins: &[Join],
+) -> Result<Graph, GraphFault>
+    requires has_a_site { 1 ≤ nx * ny * length types.now }
+    requires within_limit { nx * ny * length types.now ≤ MAX_SITES }
+    requires ends { All (IsInCell (length types.now)) joins.now }
+    ensures sound { IfOk result (λ _. first_fault (periodic_lattice nx ny types.now joins.now).neighbours ≡ None) }
+    ensures graph { IfOk result (λ g. g ≡ periodic_lattice nx ny types.now joins.now) }
+    ensures fault { IfErr result (λ e. (e ≡ OutOfMemory)
+        ⊎ (first_fault (periodic_lattice nx ny types.now joins.now).neighbours ≡ Some e)) }
+{
+    let repeats = Repeats {
+        nx,
+        ny,
+        sites: types.len() as u32,
+    };
+    let site_types = repeats.types(alloc, types)?;
+    let lists = neighbour_lists(alloc, repeats, joins)?;
+    Graph::new(site_types, lists)
+}
+
+/// A lattice that has a name, of `nx` times `ny` sites, or the first fault of the neighbours.
+///
+/// A direction with one site makes each site its own neighbour.
+pub fn expand_default(
+    alloc: Global,
+    kind: DefaultLattice,
+    nx: u32,
+    ny: u32,
+) -> Result<Graph, GraphFault>
+    requires has_a_site { 1 ≤ nx * ny }
+    requires within_limit { nx * ny ≤ MAX_SITES }
+    ensures sound { IfOk result (λ _. first_fault (default_lattice kind nx ny).neighbours ≡ None) }
+    ensures graph { IfOk result (λ g. g ≡ default_lattice kind nx ny) }
+    ensures fault { IfErr result (λ e. (e ≡ OutOfMemory)
+        ⊎ (first_fault (default_lattice kind nx ny).neighbours ≡ Some e)) }
+{
+    match kind {
+        DefaultLattice::Rectangular => expand_periodic(alloc, nx, ny, &[1], &[NORTH, EAST]),
+        DefaultLattice::Hexagonal => {
+            expand_periodic(alloc, nx, ny, &[1], &[NORTH, EAST, NORTHEAST])
+        }
+    }
+}
+
+/// The lattice of these types and neighbours, one of each for each site, or its first fault.
+///
+/// A neighbour that is listed twice counts once. It takes no memory.
+pub fn expand_explicit(types: Vec<u16>, neighbours: Vec<Vec<SiteId>>) -> Result<Graph, GraphFault>
+    requires same_length { vec_len types ≡ vec_len neighbours }
+    requires has_a_site { 1 ≤ vec_len types }
+    requires within_limit { vec_len types ≤ MAX_SITES }
+    ensures sound { IfOk result (λ _. first_fault (number_lists neighbours.items) ≡ None) }
+    ensures graph { IfOk result (λ g. g ≡ lattice_from types.items (number_lists neighbours.items)) }
+    ensures fault { IfErr result (λ e. first_fault (number_lists neighbours.items) ≡ Some e) }
+{
+    Graph::new(types, neighbours)
+}

@@ -1,0 +1,18 @@
+//! The lattice of a cell that is repeated, of a kind that has a name, or of lists that are given.
+//!
+//! `expand_periodic` repeats a cell of sites around two directions and joins sites of each cell to sites of a displaced
+//! one. `expand_default` does so for the rectangular and the hexagonal lattice. `expand_explicit` takes the neighbours of
+//! each site. Each answers the lattice, or the first fault of its neighbours as `lattice_core` names it. The crate stands
+//! on `lattice_core` and `kmc_base`.
+#![tactic(auto)]
+
+mod cell;
+mod expand;
+mod neighbours;
+mod repeats;
+
+pub use cell::{Join, Toward};
+pub use expand::{DefaultLattice, expand_default, expand_explicit, expand_periodic};
+
+#[cfg(test)]
+mod tests;
