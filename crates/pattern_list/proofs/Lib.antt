@@ -1,0 +1,14 @@
+pub mod Agreeing
+pub mod Coding
+pub mod Conditions
+pub mod Digits
+pub mod Fits
+pub mod Going
+pub mod Listings
+pub mod Members
+pub mod Numbers
+pub mod Ordered
+pub mod Changed
+pub mod Suiting
+pub mod Vertices
+pub mod Walked
