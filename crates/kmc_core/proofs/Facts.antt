@@ -1,5 +1,5 @@
 -- What holds of the trajectory of a sound deck at each event that it comes to.
-use Rattle.std.proofs.Common.{◌≡◌, ℕ, zero, suc, ◌^◌, ◌<◌, ◌≤◌, Bool, true, false, not, cond, eqb, ℤ, List, [], ◌∷◌, Option, None, Some, length, map, refl, sym, ap, subst, ◌∙◌, arith, ◌&&◌}
+use Rattle.std.proofs.Common.{◌≡◌, ℕ, zero, suc, ◌^◌, ◌<◌, ◌≤◌, true, false, not, cond, eqb, ℤ, List, [], ◌∷◌, Option, None, Some, length, map, refl, sym, ap, subst, ◌∙◌, arith, ◌&&◌}
 use Rattle.std.proofs.lemmas.Bool.{eqb-true}
 use Rattle.std.proofs.lemmas.List.{length-replicate, length-set}
 use Rattle.std.specs.List.{AllByRecursion}
@@ -14,7 +14,7 @@ use Rattle.named_draws.specs.Draw.{draw}
 use Rattle.kmc_core.proofs.Instances.{AreCodes, codes-all, codes-rising}
 use Rattle.fixed_math.proofs.TimeLemmas.{time_of-later}
 use Rattle.kmc_core.specs.Deck.{IsSound}
-use Rattle.kmc_core.specs.OneSite.{opening, process_of, site_of, system_of, trajectory_of}
+use Rattle.kmc_core.specs.OneSite.{State, opening, process_of, site_of, system_of, trajectory_of}
 use Rattle.kmc_core.specs.Run.{ClosedRun, IsClosedAt, IsOpenAt}
 use Rattle.kmc_core.specs.Trajectory.{Snapshot, System, fired, fresh, renewed, start, trajectory}
 use Rattle.kmc_core.specs.declared.deck.PlainDeck.{PlainDeck}
@@ -126,7 +126,7 @@ came_from {S} system seed first n now e =
     ] refl e
 
 -- what holds at each event
-pub record IsWell (deck : PlainDeck) (s : Snapshot (List Bool)) : Type 0 where
+pub record IsWell (deck : PlainDeck) (s : Snapshot (List State)) : Type 0 where
   pub sites : length s.state ≡ deck.sites
   pub time : s.time ≤ 10 ^ 30
   pub rising : IsRising (codes_of s.entries)
@@ -134,19 +134,19 @@ pub record IsWell (deck : PlainDeck) (s : Snapshot (List Bool)) : Type 0 where
   pub times : AllByRecursion (λ e. IsInTime e.when) s.entries
 
 -- the entries of a state with the deck's number of sites
-well-renewed : (deck : PlainDeck) → IsSound deck → (event : ℕ) (old : List Entry) (first : ℕ × ℕ) (sites : List Bool) →
+well-renewed : (deck : PlainDeck) → IsSound deck → (event : ℕ) (old : List Entry) (first : ℕ × ℕ) (sites : List State) →
     length sites ≡ deck.sites → first.0 ≤ 10 ^ 30 → AllByRecursion (λ e. IsInTime e.when) old →
-    IsWell deck (record { state = sites; time = first.0; entries = renewed deck.seed event old first ((system_of deck).offers sites) })
+    IsWell deck (record { state = sites; time = first.0; entries = renewed deck.plan.seed event old first ((system_of deck).offers sites) })
 well-renewed deck sound event old first sites len time all =
     let few : length sites ≤ 2 ^ 20 = omega (arith, sound.few_sites) in
-    let codes = codes-renewed deck.seed event old first ((system_of deck).offers sites) in
+    let codes = codes-renewed deck.plan.seed event old first ((system_of deck).offers sites) in
     record {
       sites = len;
       time = time;
       rising = subst IsRising (sym codes) (codes-rising deck.temperature sites 0 deck.steps few);
       codes = subst (AllByRecursion (AreCodes 0 (length deck.steps) deck.sites)) (sym codes)
           (subst (λ (n : ℕ). AllByRecursion (AreCodes 0 (length deck.steps) n) (map (λ (o : ℕ × Option ℤ). o.0) ((system_of deck).offers sites))) len (codes-all deck.temperature sites 0 deck.steps few));
-      times = renewed-in_time deck.seed event old first ((system_of deck).offers sites) all;
+      times = renewed-in_time deck.plan.seed event old first ((system_of deck).offers sites) all;
     }
 
 -- the first moment is in time, and its code names a step and a site of the deck
@@ -158,7 +158,7 @@ all-both : (P : ℕ → Type 0) (Q : Entry → Type 0) (es : List Entry) → All
 all-both P Q [] p q = tt
 all-both P Q (e ∷ es) p q = ((p.0, q.0), all-both P Q es p.1 q.1)
 
-pub first-well : (deck : PlainDeck) (s : Snapshot (List Bool)) (first : ℕ × ℕ) → IsWell deck s → least s.entries ≡ Some first → IsFirstOf deck first
+pub first-well : (deck : PlainDeck) (s : Snapshot (List State)) (first : ℕ × ℕ) → IsWell deck s → least s.entries ≡ Some first → IsFirstOf deck first
 first-well deck s first well is =
     let P : Entry → Type 0 = λ e. AreCodes 0 (length deck.steps) deck.sites e.code × IsInTime e.when in
     let one : IsMomentOf P first = subst (λ (o : Option (ℕ × ℕ)). IfSome o (IsMomentOf P)) is (least-one P s.entries (all-both (AreCodes 0 (length deck.steps) deck.sites) (λ e. IsInTime e.when) s.entries well.codes well.times)) in
@@ -168,42 +168,42 @@ first-well deck s first well is =
     }
 
 -- the state after an event has as many sites
-pub fires-length : (deck : PlainDeck) (sites : List Bool) (code : ℕ) → length ((system_of deck).fires sites code) ≡ length sites
+pub fires-length : (deck : PlainDeck) (sites : List State) (code : ℕ) → length ((system_of deck).fires sites code) ≡ length sites
 fires-length deck sites code = simp length-set
 
-pub well-fired : (deck : PlainDeck) → IsSound deck → (event : ℕ) (old : Snapshot (List Bool)) (first : ℕ × ℕ) → IsWell deck old → least old.entries ≡ Some first →
-    IsWell deck (fired (system_of deck) deck.seed event old first)
+pub well-fired : (deck : PlainDeck) → IsSound deck → (event : ℕ) (old : Snapshot (List State)) (first : ℕ × ℕ) → IsWell deck old → least old.entries ≡ Some first →
+    IsWell deck (fired (system_of deck) deck.plan.seed event old first)
 well-fired deck sound event old first well is =
     well-renewed deck sound event old.entries first ((system_of deck).fires old.state first.1) (fires-length deck old.state first.1 ∙ well.sites) (first-well deck old first well is).time well.times
 
-pub well-start : (deck : PlainDeck) → IsSound deck → IsWell deck (start (system_of deck) deck.seed (opening deck))
+pub well-start : (deck : PlainDeck) → IsSound deck → IsWell deck (start (system_of deck) deck.plan.seed (opening deck))
 well-start deck sound = well-renewed deck sound 0 [] (0, 0) (opening deck) (simp length-replicate) (omega arith) tt
 
 -- each event that the trajectory comes to is well
-pub well-at : (deck : PlainDeck) → IsSound deck → (n : ℕ) (s : Snapshot (List Bool)) → trajectory_of deck n ≡ Some s → IsWell deck s
-well-at deck sound zero s e = let is : start (system_of deck) deck.seed (opening deck) ≡ s = cc in subst (IsWell deck) is (well-start deck sound)
+pub well-at : (deck : PlainDeck) → IsSound deck → (n : ℕ) (s : Snapshot (List State)) → trajectory_of deck n ≡ Some s → IsWell deck s
+well-at deck sound zero s e = let is : start (system_of deck) deck.plan.seed (opening deck) ≡ s = cc in subst (IsWell deck) is (well-start deck sound)
 well-at deck sound (suc n) s e =
-    let came = came_from (system_of deck) deck.seed (opening deck) n s e in
+    let came = came_from (system_of deck) deck.plan.seed (opening deck) n s e in
     subst (IsWell deck) came.is (well-fired deck sound (suc n) came.old came.fires (well-at deck sound n came.old came.before) came.least)
 
 -- what a closed run is at is well
-pub closed-well : (deck : PlainDeck) (event : ℕ) (s : Snapshot (List Bool)) → IsClosedAt deck event s → IsWell deck s
+pub closed-well : (deck : PlainDeck) (event : ℕ) (s : Snapshot (List State)) → IsClosedAt deck event s → IsWell deck s
 closed-well deck event s closed = well-at deck closed.sound event s closed.state
 
 -- what comes first in a closed run comes first among its entries
-pub came_first : (deck : PlainDeck) (event : ℕ) (s : Snapshot (List Bool)) (first : ℕ × ℕ) (run : ClosedRun) → record { deck = deck; event = event } ≡ run →
+pub came_first : (deck : PlainDeck) (event : ℕ) (s : Snapshot (List State)) (first : ℕ × ℕ) (run : ClosedRun) → record { deck = deck; event = event } ≡ run →
     IsClosedAt deck event s → IsSomeAnd (trajectory_of run.deck run.event) (λ t. least t.entries ≡ Some first) → least s.entries ≡ Some first
 came_first deck event s first run is closed h =
-    subst (λ (o : Option (Snapshot (List Bool))). IsSomeAnd o (λ t. least t.entries ≡ Some first)) closed.state
+    subst (λ (o : Option (Snapshot (List State))). IsSomeAnd o (λ t. least t.entries ≡ Some first)) closed.state
     (subst (λ (r : ClosedRun). IsSomeAnd (trajectory_of r.deck r.event) (λ t. least t.entries ≡ Some first)) (sym is) h)
 
 -- an open run holds the old entries, in order; what has fired is in time; and it has the deck's number of sites
-pub record IsOpenWell (deck : PlainDeck) (first : ℕ × ℕ) (sites : List Bool) (entries : List Entry) : Type 0 where
+pub record IsOpenWell (deck : PlainDeck) (first : ℕ × ℕ) (sites : List State) (entries : List Entry) : Type 0 where
   pub time : first.0 ≤ 10 ^ 30
   pub rising : IsRising (codes_of entries)
   pub few : length sites ≤ 2 ^ 20
 
-pub open-well : (deck : PlainDeck) (event : ℕ) (first : ℕ × ℕ) (sites : List Bool) (entries : List Entry) (after : Option (List Entry)) →
+pub open-well : (deck : PlainDeck) (event : ℕ) (first : ℕ × ℕ) (sites : List State) (entries : List Entry) (after : Option (List Entry)) →
     IsOpenAt deck event first sites entries after → IsOpenWell deck first sites entries
 open-well deck event first sites entries after o =
     let well = closed-well deck (event - 1) o.old o.closed in
@@ -212,4 +212,27 @@ open-well deck event first sites entries after o =
       time = (first-well deck o.old first well came).time;
       rising = subst (λ (es : List Entry). IsRising (codes_of es)) o.old_entries well.rising;
       few = omega (arith, ap length o.fired_sites, fires-length deck o.old.state first.1, well.sites, o.closed.sound.few_sites);
+    }
+
+-- the event after one that the trajectory comes to, where something fires there
+goes_to : {S : Type 0} (system : System S) (seed : ℕ) (state : S) (n event : ℕ) (old : Snapshot S) (first : ℕ × ℕ) → suc n ≡ event →
+    trajectory system seed state n ≡ Some old → least old.entries ≡ Some first → trajectory system seed state event ≡ Some (fired system seed event old first)
+goes_to {S} system seed state n event old first is at came =
+    subst (λ (m : ℕ). trajectory system seed state m ≡ Some (fired system seed m old first)) is
+    (ap (option_and_then (λ (s : Snapshot S). option_map (fired system seed (suc n) s) (least s.entries))) at
+    ∙ ap (option_map (fired system seed (suc n) old)) came)
+
+-- an open run with the entries after its event is at that event
+pub closes : (deck : PlainDeck) (event : ℕ) (first : ℕ × ℕ) (sites : List State) (entries : List Entry) (after : Option (List Entry)) (next : List Entry) →
+    IsOpenAt deck event first sites entries after → after ≡ Some next → IsClosedAt deck event (record { state = sites; time = first.0; entries = next })
+closes deck event first sites entries after next o is =
+    let at_next : next ≡ renewed deck.plan.seed event entries first ((system_of deck).offers sites) =
+    subst (λ (x : Option (List Entry)). IfSome x (λ es. es ≡ renewed deck.plan.seed event entries first ((system_of deck).offers sites))) is o.renewed_entries in
+    let came : least o.old.entries ≡ Some first = ap least o.old_entries ∙ o.came_first in
+    record {
+      sound = o.closed.sound;
+      allowed = o.allowed;
+      state = goes_to (system_of deck) deck.plan.seed (opening deck) (event - 1) event o.old first (omega (arith, o.some)) o.closed.state came
+          ∙ ap2 (λ (ss : List State) (es : List Entry). Some (record { state = ss; time = first.0; entries = es })) (sym o.fired_sites)
+          (ap2 (λ (es : List Entry) (ss : List State). renewed deck.plan.seed event es first ((system_of deck).offers ss)) o.old_entries (sym o.fired_sites) ∙ sym at_next);
     }

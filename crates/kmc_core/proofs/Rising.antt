@@ -1,5 +1,5 @@
 -- Rising numbers.
-use Rattle.std.proofs.Common.{◌≡◌, ℕ, ◌<◌, ◌≤◌, List, [], ◌∷◌, ◌++◌, map, refl, ap, arith}
+use Rattle.std.proofs.Common.{ℕ, ◌<◌, ◌≤◌, List, [], ◌∷◌, ◌++◌, map, arith}
 use Rattle.std.specs.List.{AllByRecursion}
 use Rattle.kmc_base.specs.Entries.{IsRising}
 
@@ -28,7 +28,3 @@ rising-append bound (x ∷ xs) ys rx below ry above = (
 pub rising-map : (f : ℕ → ℕ) → ((a b : ℕ) → a < b → f a < f b) → (xs : List ℕ) → IsRising xs → IsRising (map f xs)
 rising-map f up [] r = tt
 rising-map f up (x ∷ xs) r = (all-map (λ m. x < m) (λ m. f x < m) f xs (λ m lt. up x m lt) r.0, rising-map f up xs r.1)
-
-pub map-append : {X Y : Type 0} (f : X → Y) (xs ys : List X) → map f (xs ++ ys) ≡ map f xs ++ map f ys
-map-append f [] ys = refl
-map-append f (x ∷ xs) ys = ap (λ zs. f x ∷ zs) (map-append f xs ys)

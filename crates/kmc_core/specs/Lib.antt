@@ -4,4 +4,5 @@ pub mod Offers
 pub mod OneSite
 pub mod Rate
 pub mod Run
+pub mod Stops
 pub mod Trajectory

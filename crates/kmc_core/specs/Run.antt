@@ -1,13 +1,13 @@
--- A run of a plain deck: where its trajectory has come to, and when it stops.
-use Rattle.std.specs.Prelude.{◌≡◌, ℕ, ◌-◌, ◌≤◌, ◌==◌, Bool, List, Option, None, Some, if◌then◌else◌, is_none, option_and_then, IfSome}
+-- A run of a plain deck: where its trajectory has come to.
+use Rattle.std.specs.Prelude.{◌≡◌, ℕ, ◌-◌, ◌≤◌, List, Option, Some, option_and_then, IfSome}
 use Rattle.kmc_base.specs.Entries.{least}
 use Rattle.kmc_base.specs.declared.entry.Entry.{Entry}
 use Rattle.kmc_core.specs.Deck.{IsSound}
-use Rattle.kmc_core.specs.OneSite.{system_of, trajectory_of}
+use Rattle.kmc_core.specs.OneSite.{State, system_of, trajectory_of}
+use Rattle.kmc_core.specs.Stops.{stop_at}
 use Rattle.kmc_core.specs.Trajectory.{Snapshot, renewed}
 use Rattle.kmc_core.specs.declared.deck.PlainDeck.{PlainDeck}
 use Rattle.kmc_core.specs.declared.stop.Stop.{Stop}
-use Rattle.kmc_core.specs.declared.stop.Stop.TheVariants.{Steps, Still}
 
 -- A run that is closed at an event: its deck and the event say all of it, by the deck's trajectory.
 pub record ClosedRun : Type 0 where
@@ -21,30 +21,24 @@ pub record OpenRun : Type 0 where
   pub event : ℕ
   pub undone : ℕ
 
--- Where a snapshot at an event ends the run: at the deck's greatest number of events, or else where nothing can fire.
--- A plain deck has no end of time, and too few events for 10,000,000 samples of an output.
-abbrev pub stop_at : PlainDeck → ℕ → Snapshot (List Bool) → Option Stop
-stop_at deck event snapshot =
-    if event == deck.max_steps then Some Steps else (if is_none (least snapshot.entries) then Some Still else None)
-
 -- whether and why the run ends at an event
 abbrev pub stop_of : PlainDeck → ℕ → Option Stop
-stop_of deck event = option_and_then (stop_at deck event) (trajectory_of deck event)
+stop_of deck event = option_and_then (λ s. stop_at deck.plan event s.time (least s.entries)) (trajectory_of deck event)
 
 -- These are the state, the time and the entries of the deck's trajectory at an event that the run may come to.
-pub record IsClosedAt (deck : PlainDeck) (event : ℕ) (snapshot : Snapshot (List Bool)) : Type 0 where
+pub record IsClosedAt (deck : PlainDeck) (event : ℕ) (snapshot : Snapshot (List State)) : Type 0 where
   pub sound : IsSound deck
-  pub allowed : event ≤ deck.max_steps
+  pub allowed : event ≤ deck.plan.max_steps
   pub state : trajectory_of deck event ≡ Some snapshot
 
 -- At an event that has fired, `first` is what came first before it, and the sites are those after it. The entries are
 -- still the old ones; those after the event are there, or not yet.
-pub record IsOpenAt (deck : PlainDeck) (event : ℕ) (first : ℕ × ℕ) (sites : List Bool) (entries : List Entry) (after : Option (List Entry)) : Type 0 where
-  pub old : Snapshot (List Bool)
+pub record IsOpenAt (deck : PlainDeck) (event : ℕ) (first : ℕ × ℕ) (sites : List State) (entries : List Entry) (after : Option (List Entry)) : Type 0 where
+  pub old : Snapshot (List State)
   pub closed : IsClosedAt deck (event - 1) old
   pub some : 1 ≤ event
-  pub allowed : event ≤ deck.max_steps
+  pub allowed : event ≤ deck.plan.max_steps
   pub old_entries : old.entries ≡ entries
   pub came_first : least entries ≡ Some first
   pub fired_sites : sites ≡ (system_of deck).fires old.state first.1
-  pub renewed_entries : IfSome after (λ es. es ≡ renewed deck.seed event entries first ((system_of deck).offers sites))
+  pub renewed_entries : IfSome after (λ es. es ≡ renewed deck.plan.seed event entries first ((system_of deck).offers sites))

@@ -1,15 +1,17 @@
-ghost use Rattle.std.specs.Prelude.{◌≡◌, ◌^◌, ◌≤◌, IfOk, IfErr, IsSomeAnd, count_by, replicate, false};
+ghost use Rattle.std.specs.Prelude.{◌≡◌, ◌^◌, ◌≤◌, ◌<◌, IfOk, IfErr, IsSomeAnd, count_by, replicate};
 ghost use Rattle.kmc_base.specs.Entries.{least as least_of};
 ghost use Rattle.kmc_core.specs.Deck.{IsSound};
-ghost use Rattle.kmc_core.specs.OneSite.{opening as opening_of, system_of, trajectory_of};
+ghost use Rattle.kmc_core.specs.OneSite.{opening as opening_of, same_state as are_same, system_of, trajectory_of};
+ghost use Rattle.kmc_core.specs.Run.{stop_of};
 ghost use Rattle.kmc_core.specs.Trajectory.{start};
 
 use crate::deck::PlainDeck;
 use crate::fired::Fired;
-use crate::stop::Stop;
+use crate::state::same_state;
+use crate::stop::{Stop, stop_at};
 use crate::unclosed::Unclosed;
 use crate::{least, listing, renewal};
-use kmc_base::{Entry, OutOfMemory};
+use kmc_base::{Entry, OutOfMemory, SpeciesId};
 use named_draws::Draws;
 use std::alloc::Global;
 use std::marker::Model;
@@ -22,7 +24,7 @@ pub struct Closed {
     pub(crate) deck: PlainDeck,
     pub(crate) event: u64,
     pub(crate) time: u128,
-    pub(crate) sites: Vec<bool>,
+    pub(crate) sites: Vec<Option<SpeciesId>>,
     pub(crate) entries: Vec<Entry>,
 }
 
@@ -39,21 +41,24 @@ impl Model for Closed {
 }
 
 /// The vacant lattice.
-fn vacant(alloc: Global, sites: u32) -> Result<Vec<bool>, OutOfMemory>
-    ensures { IfOk result (λ v. v.items ≡ replicate sites false) }
+fn vacant(alloc: Global, sites: u32) -> Result<Vec<Option<SpeciesId>>, OutOfMemory>
+    ensures { IfOk result (λ v. v.items ≡ replicate sites None) }
 {
-    Ok(vec![in alloc; false; sites as usize]?)
+    Ok(vec![in alloc; None; sites as usize]?)
 }
 
 /// The sites and the entries of a deck at its start.
-fn opening(alloc: Global, deck: &PlainDeck) -> Result<(Vec<bool>, Vec<Entry>), OutOfMemory>
+fn opening(
+    alloc: Global,
+    deck: &PlainDeck,
+) -> Result<(Vec<Option<SpeciesId>>, Vec<Entry>), OutOfMemory>
     requires { IsSound deck.now }
     ensures sites { IfOk result (λ r. r.0.items ≡ opening_of deck.now) }
-    ensures entries { IfOk result (λ r. r.1.items ≡ (start (system_of deck.now) deck.now.seed (opening_of deck.now)).entries) }
+    ensures entries { IfOk result (λ r. r.1.items ≡ (start (system_of deck.now) deck.now.plan.seed (opening_of deck.now)).entries) }
 {
     let sites = vacant(alloc, deck.sites)?;
     let offers = listing::instances(alloc, deck, &sites)?;
-    let mut draws = Draws::new(deck.seed);
+    let mut draws = Draws::new(deck.plan.seed);
     let entries = renewal::renew(alloc, &[], (0, 0), &offers, &mut draws, 0)?;
     Ok((sites, entries))
 }
@@ -82,7 +87,7 @@ impl Closed {
     /// The number of the event.
     pub fn event(&self) -> u64
         ensures value { result ≡ self.now.event }
-        ensures allowed { result ≤ self.now.deck.max_steps }
+        ensures allowed { result ≤ self.now.deck.plan.max_steps }
     {
         self.event
     }
@@ -103,11 +108,31 @@ impl Closed {
         least::least(&self.entries)
     }
 
-    /// The number of adsorbates.
-    pub fn count(&self) -> u64
-        ensures { IsSomeAnd (trajectory_of self.now.deck self.now.event) (λ s. result ≡ count_by (λ holds. holds) s.state) }
+    /// The number of sites that hold a species.
+    pub fn counts_of(&self, species: SpeciesId) -> u64
+        ensures { IsSomeAnd (trajectory_of self.now.deck self.now.event) (λ s. result ≡ count_by (are_same (Some species)) s.state) }
     {
-        self.sites.iter().filter(|holds| **holds).count() as u64
+        self.sites
+            .iter()
+            .filter(|state| same_state(Some(species), **state))
+            .count() as u64
+    }
+
+    /// What fires next, or why nothing does.
+    fn next_firing(&self) -> Result<(u128, u128), Stop>
+        ensures goes_on { IfOk result (λ first. (stop_of self.now.deck self.now.event ≡ None) × (self.now.event < self.now.deck.plan.max_steps)) }
+        ensures first { IfOk result (λ first. IsSomeAnd (trajectory_of self.now.deck self.now.event) (λ s. least_of s.entries ≡ Some first)) }
+        ensures stops { IfErr result (λ stop. stop_of self.now.deck self.now.event ≡ Some stop) }
+    {
+        let least = self.least();
+        match (
+            stop_at(&self.deck.plan, self.event, self.time, least),
+            least,
+        ) {
+            (Some(stop), _) => Err(stop),
+            (None, Some(first)) => Ok(first),
+            (None, None) => unreachable!(),
+        }
     }
 
     /// The deck of the run.
@@ -122,12 +147,9 @@ impl Closed {
     pub fn fire(self) -> Fired
         ensures { Fires self result }
     {
-        if self.event == self.deck.max_steps {
-            return Fired::Ended(self, Stop::Steps);
-        }
-        match self.least() {
-            None => Fired::Ended(self, Stop::Still),
-            Some(first) => Fired::Next(Unclosed::after(self, first)),
+        match self.next_firing() {
+            Ok(first) => Fired::Next(Unclosed::after(self, first)),
+            Err(stop) => Fired::Ended(self, stop),
         }
     }
 }

@@ -1,12 +1,14 @@
-use kmc_base::Items;
+use kmc_base::{Items, SpeciesId};
+use sim_deck::Plan;
+use species_book::SpeciesBook;
 
 /// A step on one site, from one state of the site to another.
 #[derive(Clone, Copy, Debug, PartialEq, Eq)]
 pub struct PlainStep {
-    /// Whether the site holds the species before the step.
-    pub before: bool,
-    /// Whether the site holds the species after the step.
-    pub after: bool,
+    /// The species that stands on the site before the step, or `None` where the site is vacant.
+    pub before: Option<SpeciesId>,
+    /// The species that stands on the site after the step.
+    pub after: Option<SpeciesId>,
     /// The base-2 logarithm of the pre-exponential factor in 1/s, in units of 2^-30, or None where
     /// the factor is 0.
     pub factor: Option<i64>,
@@ -14,21 +16,19 @@ pub struct PlainStep {
     pub activation: i64,
 }
 
-/// A deck of one-site steps of one species, on a lattice of sites that do not interact.
+/// A deck of one-site steps, on a lattice of sites that do not interact.
 #[derive(Debug, Drop)]
 pub struct PlainDeck {
-    /// The random seed.
-    pub seed: u64,
     /// The temperature in mK, from 1 to 10,000,000.
     pub temperature: u32,
     /// The number of sites, at most `MAX_SITES`.
     pub sites: u32,
-    /// The name of the species.
-    pub species: Items<u8>,
+    /// The random seed, the end of the run, and when it is sampled.
+    pub plan: Plan,
+    /// The gas species and the surface species.
+    pub book: SpeciesBook,
+    /// The number of gas species.
+    pub gas: u8,
     /// The steps, in deck order; at most 1,024. A step's place, from 0, is the number of its process.
     pub steps: Items<PlainStep>,
-    /// The period in events of the samples of species numbers, at least 1.
-    pub period: u64,
-    /// The greatest number of events, at most 1,000,000.
-    pub max_steps: u64,
 }

@@ -1,10 +1,15 @@
 //! The core: what a state of the lattice offers, and the trajectory from one event to the next by
 //! rescanning the whole lattice.
 //!
-//! A `Closed` is the state of its deck's trajectory at its event, by its type; an `Unclosed` has
-//! fired the next event and cannot be fired itself. The crate stands on `kmc_base` for entries and the
-//! rule by which they keep their times, on `fixed_math` for waiting times and on `named_draws` for
-//! random numbers.
+//! A site is vacant or holds one of the deck's species. A `Closed` is the state of its deck's
+//! trajectory at its event, by its type; an `Unclosed` has fired the next event and cannot be fired
+//! itself. A run ends for the first of four reasons that holds: an output has all its samples, the
+//! greatest number of events is reached, nothing can fire any more, or what fires next comes after
+//! the end of time.
+//!
+//! The crate stands on `kmc_base` for entries and the rule by which they keep their times, on
+//! `sim_deck` for the plan of a run, on `species_book` for its species, on `fixed_math` for waiting
+//! times and on `named_draws` for random numbers.
 #![tactic(auto)]
 
 mod closed;
@@ -13,6 +18,7 @@ mod fired;
 mod least;
 mod listing;
 mod renewal;
+mod state;
 mod stop;
 #[cfg(test)]
 mod tests;

@@ -1,13 +1,95 @@
-/// Why a run has ended: the first of these that holds. A plain deck has no end of time, and too few
-/// events for 10,000,000 samples, so its runs end by `Steps` or `Still`.
+ghost use Rattle.std.specs.Prelude.{◌≡◌, ◌^◌, ◌≤◌};
+ghost use Rattle.kmc_core.specs.Stops.{end_of_time as end_of, is_full as is_full_at, samples_due as due_at, some_output_is_full as some_is_full_at, stop_at as stops_at, stop_before as stops_before};
+ghost use Rattle.sim_deck.specs.Soundness.{IsPeriod, IsSoundPlan};
+
+use sim_deck::{Plan, Sampling};
+
+/// Why a run has ended: the first of these that holds after its event.
 #[derive(Clone, Copy, Debug, PartialEq, Eq, Hash)]
 pub enum Stop {
-    /// An output has as many samples as it may have.
+    /// An output has 10,000,000 samples, which is as many as it may have.
     Samples,
     /// The deck's greatest number of events is reached.
     Steps,
     /// No instance has a time: nothing can fire any more.
     Still,
-    /// The next event would come after the deck's end of time.
+    /// The next event would come after the end of time: that of the deck, or 10^30 as.
     Horizon,
+}
+
+/// The greatest number of samples of an output.
+const MOST_SAMPLES: u128 = 10_000_000;
+
+/// The end of time in as, where the deck has none of its own.
+const END_OF_TIME: u128 = 1_000_000_000_000_000_000_000_000_000_000;
+
+/// How many samples of an output are due at an event and its time.
+fn samples_due(sampling: Sampling, event: u64, time: u128) -> u128
+    requires period { IsPeriod sampling }
+    requires time { time ≤ 10 ^ 30 }
+    ensures { result ≡ due_at sampling event time }
+{
+    match sampling {
+        Sampling::Off => 0,
+        Sampling::Event(period) => u128::from(event / period) + 1,
+        Sampling::Time(period) => time / period + 1,
+    }
+}
+
+/// Whether an output has as many samples as it may have.
+fn is_full(sampling: Sampling, event: u64, time: u128) -> bool
+    requires period { IsPeriod sampling }
+    requires time { time ≤ 10 ^ 30 }
+    ensures { result ≡ is_full_at sampling event time }
+{
+    MOST_SAMPLES <= samples_due(sampling, event, time)
+}
+
+/// Whether some output has as many samples as it may have.
+fn some_output_is_full(plan: &Plan, event: u64, time: u128) -> bool
+    requires plan { IsSoundPlan plan.now }
+    requires time { time ≤ 10 ^ 30 }
+    ensures { result ≡ some_is_full_at plan.now event time }
+{
+    is_full(plan.history, event, time)
+        || is_full(plan.procstat, event, time)
+        || is_full(plan.specnum, event, time)
+}
+
+/// The end of time of a plan, in as.
+fn end_of_time(plan: &Plan) -> u128
+    ensures { result ≡ end_of plan.now }
+{
+    plan.max_time.unwrap_or(END_OF_TIME)
+}
+
+/// Why a run stops before what would fire next, the least by (time, code).
+fn stop_before(plan: &Plan, least: Option<(u128, u128)>) -> Option<Stop>
+    ensures { result ≡ stops_before plan.now least }
+{
+    match least {
+        None => Some(Stop::Still),
+        Some((time, _)) if end_of_time(plan) < time => Some(Stop::Horizon),
+        Some(_) => None,
+    }
+}
+
+/// Whether and why a run stops after an event, by the event's time and by what would fire next.
+pub(crate) fn stop_at(
+    plan: &Plan,
+    event: u64,
+    time: u128,
+    least: Option<(u128, u128)>,
+) -> Option<Stop>
+    requires plan { IsSoundPlan plan.now }
+    requires time { time ≤ 10 ^ 30 }
+    ensures { result ≡ stops_at plan.now event time least }
+{
+    if some_output_is_full(plan, event, time) {
+        Some(Stop::Samples)
+    } else if event == plan.max_steps {
+        Some(Stop::Steps)
+    } else {
+        stop_before(plan, least)
+    }
 }

@@ -5,7 +5,7 @@ ghost use Rattle.kmc_core.specs.OneSite.{trajectory_of};
 use crate::closed::Closed;
 use crate::deck::PlainDeck;
 use crate::{listing, renewal};
-use kmc_base::{Entry, OutOfMemory};
+use kmc_base::{Entry, OutOfMemory, SpeciesId};
 use named_draws::Draws;
 use std::alloc::Global;
 use std::marker::Model;
@@ -25,7 +25,7 @@ pub struct Unclosed {
     event: u64,
     // The time of the event and the code that fired.
     first: (u128, u128),
-    sites: Vec<bool>,
+    sites: Vec<Option<SpeciesId>>,
     // The entries before the event, and those after it once they are there.
     entries: Vec<Entry>,
     renewed: Option<Vec<Entry>>,
@@ -48,7 +48,7 @@ impl Model for Unclosed {
 impl Unclosed {
     /// The run after an event that fires what comes first.
     pub(crate) fn after(closed: Closed, first: (u128, u128)) -> Unclosed
-        requires goes_on { closed.event < closed.deck.max_steps }
+        requires goes_on { closed.event < closed.deck.plan.max_steps }
         requires first { IsSomeAnd (trajectory_of closed.deck closed.event) (λ s. least_of s.entries ≡ Some first) }
         ensures { result ≡ record { deck = closed.deck; event = closed.event + 1; undone = 1 } }
     {
@@ -59,8 +59,8 @@ impl Unclosed {
             entries,
             ..
         } = closed;
-        let (site, holds) = listing::change_of(&deck, first.1);
-        sites[site] = holds;
+        let (site, state) = listing::change_of(&deck, first.1);
+        sites[site] = state;
         Unclosed {
             deck,
             event: event + 1,
@@ -86,7 +86,7 @@ impl Unclosed {
         ensures err { OnErr result (self.new ≡ self.old) }
     {
         let offers = listing::instances(alloc, &self.deck, &self.sites)?;
-        let mut draws = Draws::new(self.deck.seed);
+        let mut draws = Draws::new(self.deck.plan.seed);
         self.renewed = Some(renewal::renew(
             alloc,
             &self.entries,

@@ -34,15 +34,15 @@ later-next : (deck : PlainDeck) (left event : ℕ) → stop_of deck event ≡ No
 unfolding later
 later-next deck left event is = ap (λ s. if is_none s then events_after deck left (event + 1) else []) is
 
-next-events : (deck : PlainDeck) (event : ℕ) → stop_of deck event ≡ None → event < deck.max_steps → events_from deck event ≡ event ∷ events_from deck (event + 1)
+next-events : (deck : PlainDeck) (event : ℕ) → stop_of deck event ≡ None → event < deck.plan.max_steps → events_from deck event ≡ event ∷ events_from deck (event + 1)
 next-events deck event is lt =
-    let left : deck.max_steps - event ≡ suc (deck.max_steps - (event + 1)) = omega arith in
-    first-later deck (deck.max_steps - event) event
-    ∙ ap (λ es. event ∷ es) (ap (λ n. later deck n event) left ∙ later-next deck (deck.max_steps - (event + 1)) event is)
+    let left : deck.plan.max_steps - event ≡ suc (deck.plan.max_steps - (event + 1)) = omega arith in
+    first-later deck (deck.plan.max_steps - event) event
+    ∙ ap (λ es. event ∷ es) (ap (λ n. later deck n event) left ∙ later-next deck (deck.plan.max_steps - (event + 1)) event is)
 
 last-event : (deck : PlainDeck) (event : ℕ) (stop : Stop) → stop_of deck event ≡ Some stop → events_from deck event ≡ event ∷ []
 last-event deck event stop is =
-    first-later deck (deck.max_steps - event) event ∙ ap (λ es. event ∷ es) (later-stopped deck (deck.max_steps - event) event stop is)
+    first-later deck (deck.plan.max_steps - event) event ∙ ap (λ es. event ∷ es) (later-stopped deck (deck.plan.max_steps - event) event stop is)
 
 flat-append : (f : ℕ → List Write) (a b : List ℕ) → flat_map f (a ++ b) ≡ flat_map f a ++ flat_map f b
 flat-append f [] b = refl
@@ -59,9 +59,9 @@ passed_none deck first x = record { events = []; all = refl; done = done_none x 
 
 -- the writes of all events, by those that were passed and the present one
 whole : (deck : PlainDeck) (first event : ℕ) (events : List ℕ) → events ++ events_from deck event ≡ events_from deck first →
-    flat_map (writes_at deck) events ++ (writes_at deck event ++ flat_map (writes_at deck) (later deck (deck.max_steps - event) event)) ≡ flat_map (writes_at deck) (events_from deck first)
+    flat_map (writes_at deck) events ++ (writes_at deck event ++ flat_map (writes_at deck) (later deck (deck.plan.max_steps - event) event)) ≡ flat_map (writes_at deck) (events_from deck first)
 whole deck first event events all =
-    ap (λ es. flat_map (writes_at deck) events ++ flat_map (writes_at deck) es) (sym (first-later deck (deck.max_steps - event) event))
+    ap (λ es. flat_map (writes_at deck) events ++ flat_map (writes_at deck) es) (sym (first-later deck (deck.plan.max_steps - event) event))
     ∙ (sym (flat-append (writes_at deck) events (events_from deck event)) ∙ ap (flat_map (writes_at deck)) all)
 
 one_more : (deck : PlainDeck) (event : ℕ) (events : List ℕ) (x y z : Option Outs) → Done (flat_map (writes_at deck) events) x y → Done (writes_at deck event) y z →
@@ -73,7 +73,7 @@ one_more deck event events x y z p q =
 
 -- one more event is passed
 pub passed_one : (deck : PlainDeck) (first event : ℕ) (x y z : Option Outs) → Passed deck first event x y → Done (writes_at deck event) y z →
-    stop_of deck event ≡ None → event < deck.max_steps → Passed deck first (event + 1) x z
+    stop_of deck event ≡ None → event < deck.plan.max_steps → Passed deck first (event + 1) x z
 passed_one deck first event x y z p q is lt = record {
   events = p.events ++ event ∷ [];
   all = append_assoc p.events (event ∷ []) (events_from deck (event + 1)) ∙ (ap (λ es. p.events ++ es) (sym (next-events deck event is lt)) ∙ p.all);
@@ -94,7 +94,7 @@ passed_end deck first event stop x y p is = (p.events, sym p.all ∙ ap (λ es. 
 pub passed_fails : (deck : PlainDeck) (first event : ℕ) (fault : DriveFault) (x y z : Option Outs) → Passed deck first event x y → Ended (writes_at deck event) fault y z →
     Ended (flat_map (writes_at deck) (events_from deck first)) fault x z
 passed_fails deck first event fault x y z p q =
-    let others = flat_map (writes_at deck) (later deck (deck.max_steps - event) event) in
+    let others = flat_map (writes_at deck) (later deck (deck.plan.max_steps - event) event) in
     subst (λ (ws : List Write). Ended ws fault x z) (whole deck first event p.events p.all)
     (done_ended (flat_map (writes_at deck) p.events) (writes_at deck event ++ others) fault x y z p.done (ended_more (writes_at deck event) others fault y z q))
 
@@ -102,7 +102,7 @@ passed_fails deck first event fault x y z p q =
 pub passed_stops : (deck : PlainDeck) (first event : ℕ) (x y z : Option Outs) → Passed deck first event x y → Done (writes_at deck event) y z →
     Ended (flat_map (writes_at deck) (events_from deck first)) OutOfMemory x z
 passed_stops deck first event x y z p q =
-    let others = flat_map (writes_at deck) (later deck (deck.max_steps - event) event) in
+    let others = flat_map (writes_at deck) (later deck (deck.plan.max_steps - event) event) in
     subst (λ (ws : List Write). Ended ws OutOfMemory x z) (whole deck first event p.events p.all)
     (done_ended (flat_map (writes_at deck) p.events) (writes_at deck event ++ others) OutOfMemory x y z p.done
     (subst (λ (ws : List Write). Ended ws OutOfMemory y z) refl (done_ended (writes_at deck event) others OutOfMemory y z z q (ended_none others z))))

@@ -1,3 +1,4 @@
+pub mod CountLemmas
 pub mod DigitLemmas
 pub mod DriveLemmas
 pub mod EventLemmas
@@ -7,6 +8,6 @@ pub mod PlainPhrases
 pub mod PlainReads
 pub mod PlainRows
 pub mod PlainSteps
+pub mod ReadLemmas
 pub mod SampleLemmas
-pub mod StepLemmas
 pub mod WriteLemmas

@@ -28,7 +28,7 @@ digits_more word i b h at =
 pub number_small : (n i : ℕ) → n < 10 ^ i → i ≤ 18 → n < 10 ^ 18
 number_small n i h few = omega (arith, pow-le-pow_right {n = 10} (omega arith) {i = i} {j = 18} few)
 
-not_eqb : (a b : ℕ) → a ≢ b → eqb a b ≡ false
+pub not_eqb : (a b : ℕ) → a ≢ b → eqb a b ≡ false
 not_eqb a b h = elim (eqb_tells a b) as (λ _. eqb a b ≡ false) [ inl t ↦ absurd (h t.1) | inr t ↦ t.0 ]
 
 -- no zero more may go into the power

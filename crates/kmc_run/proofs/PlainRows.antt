@@ -3,7 +3,7 @@ use Rattle.std.proofs.Common.{◌≡◌, ℕ, Bool, true, false, ◌&&◌, List,
 use Rattle.std.specs.Prelude.{codes, if◌then◌else◌}
 use Rattle.kmc_run.specs.PlainText.{Word, Line, pieces, same_word, after_words, words_behind, word_after, some_words, two_words, number_of, found_if, ◌>>=◌}
 use Rattle.kmc_run.specs.PlainLattice.{sides_of, two_numbers}
-use Rattle.kmc_run.specs.PlainMechanism.{digits_and_power, factor_after, factor_of, power_of, state_row, holds}
+use Rattle.kmc_run.specs.PlainMechanism.{digits_and_power, factor_after, factor_of, power_of, state_row, state_named}
 use Rattle.kmc_run.proofs.PlainLines.{pieces_first}
 use Rattle.kmc_run.proofs.PlainReads.{paired, first_then}
 
@@ -22,31 +22,31 @@ pub no_sides : sides_of [] ≡ None
 unfolding sides_of
 no_sides = refl
 
-pub no_state : (species : Word) → state_row species [] ≡ None
+pub no_state : (names : List Word) → state_row names [] ≡ None
 unfolding state_row
-no_state species = refl
+no_state names = refl
 
 -- one word is no state row
-pub state_row_whole : (species : Word) (words : List Word) (text : Word) → words ≡ text ∷ [] → state_row species words ≡ None
+pub state_row_whole : (names : List Word) (words : List Word) (text : Word) → words ≡ text ∷ [] → state_row names words ≡ None
 unfolding state_row
-state_row_whole species words text whole = ap (state_row species) whole
+state_row_whole names words text whole = ap (state_row names) whole
 
-state_row_cut : (species entity : Word) (rest : List Word) → state_row species (entity ∷ rest) ≡ (two_words rest >>= λ w. if same_word entity (codes "1") && same_word w.1 (codes "1") then holds species w.0 else None)
+state_row_cut : (names : List Word) (entity : Word) (rest : List Word) → state_row names (entity ∷ rest) ≡ (two_words rest >>= λ w. if same_word entity (codes "1") && same_word w.1 (codes "1") then state_named names w.0 else None)
 unfolding state_row two_words
-state_row_cut species entity [] = refl
-state_row_cut species entity (name ∷ []) = refl
-state_row_cut species entity (name ∷ dentate ∷ []) = refl
-state_row_cut species entity (name ∷ dentate ∷ next ∷ others) = refl
+state_row_cut names entity [] = refl
+state_row_cut names entity (name ∷ []) = refl
+state_row_cut names entity (name ∷ dentate ∷ []) = refl
+state_row_cut names entity (name ∷ dentate ∷ next ∷ others) = refl
 
-pub state_row_none : (species : Word) (words : List Word) (entity : Word) (rest : List Word) → words ≡ entity ∷ rest → two_words rest ≡ None → state_row species words ≡ None
-state_row_none species words entity rest cut none =
-    ap (state_row species) cut ∙ state_row_cut species entity rest
-    ∙ ap (λ (o : Option (Word × Word)). o >>= λ w. if same_word entity (codes "1") && same_word w.1 (codes "1") then holds species w.0 else None) none
+pub state_row_none : (names : List Word) (words : List Word) (entity : Word) (rest : List Word) → words ≡ entity ∷ rest → two_words rest ≡ None → state_row names words ≡ None
+state_row_none names words entity rest cut none =
+    ap (state_row names) cut ∙ state_row_cut names entity rest
+    ∙ ap (λ (o : Option (Word × Word)). o >>= λ w. if same_word entity (codes "1") && same_word w.1 (codes "1") then state_named names w.0 else None) none
 
-state_row_found : (species : Word) (words : List Word) (entity name dentate : Word) (rest : List Word) → words ≡ entity ∷ rest → two_words rest ≡ Some (name, dentate) → state_row species words ≡ (if same_word entity (codes "1") && same_word dentate (codes "1") then holds species name else None)
-state_row_found species words entity name dentate rest cut found =
-    ap (state_row species) cut ∙ state_row_cut species entity rest
-    ∙ ap (λ (o : Option (Word × Word)). o >>= λ w. if same_word entity (codes "1") && same_word w.1 (codes "1") then holds species w.0 else None) found
+state_row_found : (names : List Word) (words : List Word) (entity name dentate : Word) (rest : List Word) → words ≡ entity ∷ rest → two_words rest ≡ Some (name, dentate) → state_row names words ≡ (if same_word entity (codes "1") && same_word dentate (codes "1") then state_named names name else None)
+state_row_found names words entity name dentate rest cut found =
+    ap (state_row names) cut ∙ state_row_cut names entity rest
+    ∙ ap (λ (o : Option (Word × Word)). o >>= λ w. if same_word entity (codes "1") && same_word w.1 (codes "1") then state_named names w.0 else None) found
 
 -- digits alone
 pub digits_whole : (words : List Word) (digits : Word) → words ≡ digits ∷ [] → digits_and_power words ≡ (number_of digits >>= λ n. Some (n, 0))
@@ -71,23 +71,23 @@ unfolding factor_after
 factor_after_word lines = first_then (codes "pre_expon" ∷ []) factor_of lines
 
 -- a row that does not begin, or does not end, with 1
-pub row_entity : (species : Word) (words : List Word) (entity name dentate : Word) (rest : List Word) → words ≡ entity ∷ rest → two_words rest ≡ Some (name, dentate) → same_word entity (codes "1") ≡ false → state_row species words ≡ None
-row_entity species words entity name dentate rest cut found other =
-    state_row_found species words entity name dentate rest cut found
-    ∙ ap (λ (t : Bool). if t && same_word dentate (codes "1") then holds species name else None) other
+pub row_entity : (names : List Word) (words : List Word) (entity name dentate : Word) (rest : List Word) → words ≡ entity ∷ rest → two_words rest ≡ Some (name, dentate) → same_word entity (codes "1") ≡ false → state_row names words ≡ None
+row_entity names words entity name dentate rest cut found other =
+    state_row_found names words entity name dentate rest cut found
+    ∙ ap (λ (t : Bool). if t && same_word dentate (codes "1") then state_named names name else None) other
 
-pub row_dentate : (species : Word) (words : List Word) (entity name dentate : Word) (rest : List Word) → words ≡ entity ∷ rest → two_words rest ≡ Some (name, dentate) → same_word entity (codes "1") ≡ true → same_word dentate (codes "1") ≡ false → state_row species words ≡ None
-row_dentate species words entity name dentate rest cut found one other =
-    state_row_found species words entity name dentate rest cut found
-    ∙ ap (λ (t : Bool). if t && same_word dentate (codes "1") then holds species name else None) one
-    ∙ ap (λ (t : Bool). if t then holds species name else None) other
+pub row_dentate : (names : List Word) (words : List Word) (entity name dentate : Word) (rest : List Word) → words ≡ entity ∷ rest → two_words rest ≡ Some (name, dentate) → same_word entity (codes "1") ≡ true → same_word dentate (codes "1") ≡ false → state_row names words ≡ None
+row_dentate names words entity name dentate rest cut found one other =
+    state_row_found names words entity name dentate rest cut found
+    ∙ ap (λ (t : Bool). if t && same_word dentate (codes "1") then state_named names name else None) one
+    ∙ ap (λ (t : Bool). if t then state_named names name else None) other
 
 -- a row `1 Q 1` says what its name says
-pub row_name : (species : Word) (words : List Word) (entity name dentate : Word) (rest : List Word) → words ≡ entity ∷ rest → two_words rest ≡ Some (name, dentate) → same_word entity (codes "1") ≡ true → same_word dentate (codes "1") ≡ true → state_row species words ≡ holds species name
-row_name species words entity name dentate rest cut found one last =
-    state_row_found species words entity name dentate rest cut found
-    ∙ ap (λ (t : Bool). if t && same_word dentate (codes "1") then holds species name else None) one
-    ∙ ap (λ (t : Bool). if t then holds species name else None) last
+pub row_name : (names : List Word) (words : List Word) (entity name dentate : Word) (rest : List Word) → words ≡ entity ∷ rest → two_words rest ≡ Some (name, dentate) → same_word entity (codes "1") ≡ true → same_word dentate (codes "1") ≡ true → state_row names words ≡ state_named names name
+row_name names words entity name dentate rest cut found one last =
+    state_row_found names words entity name dentate rest cut found
+    ∙ ap (λ (t : Bool). if t && same_word dentate (codes "1") then state_named names name else None) one
+    ∙ ap (λ (t : Bool). if t then state_named names name else None) last
 
 pub found_both : {X : Type 0} (s t : Bool) (x : X) → s ≡ true → t ≡ true → found_if (s && t) x ≡ Some x
 found_both s t x e f = ap (λ u. found_if (u && t) x) e ∙ ap (λ u. found_if u x) f

@@ -3,7 +3,8 @@ use Rattle.std.proofs.Common.{◌≡◌, ℕ, suc, ◌+◌, Bool, true, false, c
 use Rattle.std.specs.Prelude.{is_some}
 use Rattle.std.proofs.lemmas.List.{append-nil}
 use Rattle.kmc_run.specs.PlainText.{Word, Line, found_if, ◌>>=◌}
-use Rattle.kmc_run.specs.PlainMechanism.{Step, closes, closing, first_step, steps_from}
+use Rattle.std.specs.List.{AllByRecursion}
+use Rattle.kmc_run.specs.PlainMechanism.{IsPlainStep, Step, closes, closing, first_step, steps_from}
 
 -- steps before others
 abbrev pub with_front : List Step → Option (List Step) → Option (List Step)
@@ -21,38 +22,43 @@ front_closed front true = ap Some (append-nil front)
 front_closed front false = refl
 
 -- the steps, where the closing word does not come yet
-steps_open : (most left : ℕ) (species : Word) (lines : List Line) → most ≡ left + 1 → closes lines ≡ false → steps_from most species lines ≡ (first_step species lines >>= λ step. with_first step.0 (steps_from left species step.1))
+steps_open : (most left : ℕ) (names : List Word) (lines : List Line) → most ≡ left + 1 → closes lines ≡ false → steps_from most names lines ≡ (first_step names lines >>= λ step. with_first step.0 (steps_from left names step.1))
 unfolding steps_from
-steps_open most left species lines e open_ =
+steps_open most left names lines e open_ =
     let step : most ≡ suc left = omega arith in
-    ap (λ (m : ℕ). steps_from m species lines) step
-    ∙ ap (λ (t : Bool). cond t (found_if (is_some (closing lines)) []) (first_step species lines >>= λ step. with_first step.0 (steps_from left species step.1))) open_
+    ap (λ (m : ℕ). steps_from m names lines) step
+    ∙ ap (λ (t : Bool). cond t (found_if (is_some (closing lines)) []) (first_step names lines >>= λ step. with_first step.0 (steps_from left names step.1))) open_
 
 -- a step more
-pub goes_on : (front : List Step) (most left : ℕ) (species : Word) (lines rest : List Line) (step : Step) (whole : Option (List Step)) → most ≡ left + 1 → closes lines ≡ false → first_step species lines ≡ Some (step, rest) → with_front front (steps_from most species lines) ≡ whole → with_front (front ++ step ∷ []) (steps_from left species rest) ≡ whole
-goes_on front most left species lines rest step whole e open_ first so_far =
-    sym (front_first front step (steps_from left species rest))
-    ∙ sym (ap (with_front front) (steps_open most left species lines e open_ ∙ ap (λ o. o >>= λ step. with_first step.0 (steps_from left species step.1)) first))
+pub goes_on : (front : List Step) (most left : ℕ) (names : List Word) (lines rest : List Line) (step : Step) (whole : Option (List Step)) → most ≡ left + 1 → closes lines ≡ false → first_step names lines ≡ Some (step, rest) → with_front front (steps_from most names lines) ≡ whole → with_front (front ++ step ∷ []) (steps_from left names rest) ≡ whole
+goes_on front most left names lines rest step whole e open_ first so_far =
+    sym (front_first front step (steps_from left names rest))
+    ∙ sym (ap (with_front front) (steps_open most left names lines e open_ ∙ ap (λ o. o >>= λ step. with_first step.0 (steps_from left names step.1)) first))
     ∙ so_far
 
 -- no step where there is no closing word
-pub fails : (front : List Step) (most left : ℕ) (species : Word) (lines : List Line) (whole : Option (List Step)) → most ≡ left + 1 → closes lines ≡ false → first_step species lines ≡ None → with_front front (steps_from most species lines) ≡ whole → whole ≡ None
-fails front most left species lines whole e open_ none so_far =
+pub fails : (front : List Step) (most left : ℕ) (names : List Word) (lines : List Line) (whole : Option (List Step)) → most ≡ left + 1 → closes lines ≡ false → first_step names lines ≡ None → with_front front (steps_from most names lines) ≡ whole → whole ≡ None
+fails front most left names lines whole e open_ none so_far =
     sym so_far
-    ∙ ap (with_front front) (steps_open most left species lines e open_ ∙ ap (λ o. o >>= λ step. with_first step.0 (steps_from left species step.1)) none)
+    ∙ ap (with_front front) (steps_open most left names lines e open_ ∙ ap (λ o. o >>= λ step. with_first step.0 (steps_from left names step.1)) none)
 
 -- the closing word
-pub ends_closed : (front : List Step) (most left : ℕ) (species : Word) (lines : List Line) (whole : Option (List Step)) → most ≡ left + 1 → closes lines ≡ true → with_front front (steps_from most species lines) ≡ whole → whole ≡ found_if (is_some (closing lines)) front
+pub ends_closed : (front : List Step) (most left : ℕ) (names : List Word) (lines : List Line) (whole : Option (List Step)) → most ≡ left + 1 → closes lines ≡ true → with_front front (steps_from most names lines) ≡ whole → whole ≡ found_if (is_some (closing lines)) front
 unfolding steps_from
-ends_closed front most left species lines whole e closed so_far =
+ends_closed front most left names lines whole e closed so_far =
     let step : most ≡ suc left = omega arith in
-    let last : steps_from most species lines ≡ found_if (is_some (closing lines)) [] =
-    ap (λ (m : ℕ). steps_from m species lines) step
-    ∙ ap (λ (t : Bool). cond t (found_if (is_some (closing lines)) []) (first_step species lines >>= λ step. with_first step.0 (steps_from left species step.1))) closed in
+    let last : steps_from most names lines ≡ found_if (is_some (closing lines)) [] =
+    ap (λ (m : ℕ). steps_from m names lines) step
+    ∙ ap (λ (t : Bool). cond t (found_if (is_some (closing lines)) []) (first_step names lines >>= λ step. with_first step.0 (steps_from left names step.1))) closed in
     sym so_far ∙ ap (with_front front) last ∙ front_closed front (is_some (closing lines))
 
 -- no more steps may come
-pub ends_full : (front : List Step) (most : ℕ) (species : Word) (lines : List Line) (whole : Option (List Step)) → most ≡ 0 → with_front front (steps_from most species lines) ≡ whole → whole ≡ found_if (is_some (closing lines)) front
+pub ends_full : (front : List Step) (most : ℕ) (names : List Word) (lines : List Line) (whole : Option (List Step)) → most ≡ 0 → with_front front (steps_from most names lines) ≡ whole → whole ≡ found_if (is_some (closing lines)) front
 unfolding steps_from
-ends_full front most species lines whole e so_far =
-    sym so_far ∙ ap (λ (m : ℕ). with_front front (steps_from m species lines)) e ∙ front_closed front (is_some (closing lines))
+ends_full front most names lines whole e so_far =
+    sym so_far ∙ ap (λ (m : ℕ). with_front front (steps_from m names lines)) e ∙ front_closed front (is_some (closing lines))
+
+-- one more step of the plain form
+pub all_plain_push : (count : ℕ) (steps : List Step) (step : Step) → AllByRecursion (IsPlainStep count) steps → IsPlainStep count step → AllByRecursion (IsPlainStep count) (steps ++ step ∷ [])
+all_plain_push count [] step all plain = (plain, tt)
+all_plain_push count (first ∷ steps) step all plain = (all.0, all_plain_push count steps step all.1 plain)

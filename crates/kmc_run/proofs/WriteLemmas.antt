@@ -94,6 +94,9 @@ append_then a out text piece x y z r is p q =
     ended_then a (Append out text ∷ []) x y z r p (subst (λ (t : List ℕ). IfErr r (λ fault. Ended (Append out t ∷ []) fault y z)) is q)
 
 -- the same writes, said otherwise
+pub ended_as : (a b : List Write) (fault : DriveFault) (x y : Option Outs) → a ≡ b → Ended a fault x y → Ended b fault x y
+ended_as a b fault x y is p = subst (λ (ws : List Write). Ended ws fault x y) is p
+
 pub ok_as : (a b : List Write) (x y : Option Outs) (r : Result (Unit {0}) DriveFault) → a ≡ b → OnOk r (Done a x y) → OnOk r (Done b x y)
 ok_as a b x y r is p = subst (λ (ws : List Write). OnOk r (Done ws x y)) is p
 

@@ -1,5 +1,6 @@
 -- What the program may answer, and what it leaves in the outputs.
 use Rattle.std.specs.Prelude.{◌≡◌, ℕ, [], ◌∷◌, Bool, false, List, Option, Result, Ok, Err, codes}
+use Rattle.deck_shape.specs.declared.fault.Fault.{Fault}
 use Rattle.kmc_base.specs.Faults.{Rose}
 use Rattle.kmc_base.specs.Outs.{Outs}
 use Rattle.kmc_base.specs.declared.ids.FileId.{FileId}
@@ -9,7 +10,6 @@ use Rattle.kmc_run.specs.PlainText.{same_word}
 use Rattle.kmc_run.specs.Samples.{writes_of}
 use Rattle.kmc_run.specs.Writes as writing
 use Rattle.kmc_run.specs.declared.drive_fault.DriveFault.TheVariants.{WriteFault as WriteFailed, OutOfMemory as NoMemory}
-use Rattle.kmc_run.specs.declared.status.Fault.{Fault}
 use Rattle.kmc_run.specs.declared.status.Status.{Status}
 use Rattle.kmc_run.specs.declared.status.Status.TheVariants.{Done, BadWords, Refused, ReadFault, WriteFault, ScreenFault, OutOfMemory}
 
@@ -18,10 +18,6 @@ abbrev pub are_right : List (List ℕ) → Bool
 are_right (word ∷ []) = same_word word (codes "run")
 are_right [] = false
 are_right (word ∷ next ∷ others) = false
-
--- the fault of a file that is not of a form that is built: kind 0, at the file as a whole
-abbrev pub not_built : FileId → Fault
-not_built file = record { file = file; line = 0; kind = 0 }
 
 -- A fault of reading or writing has a cause: the count of faults of that file or output has risen.
 abbrev pub HasCause : (reads_then reads_now : FileId → ℕ) (writes_then writes_now : OutId → ℕ) → Status → Type 0
@@ -34,8 +30,9 @@ HasCause reads_then reads_now writes_then writes_now ScreenFault = Unit {0}
 HasCause reads_then reads_now writes_then writes_now OutOfMemory = Unit {0}
 
 -- What a run over right words may answer, by what its files stand for. A deck is run: the answer is Done, or a fault of
--- reading or writing, or want of memory. Files that are no deck are refused, unless reading failed or memory was short.
-abbrev pub MayAnswer : Result PlainDeck FileId → Status → Type 0
+-- reading or writing, or want of memory. Files with a fault are refused with the first, unless reading failed or memory
+-- was short.
+abbrev pub MayAnswer : Result PlainDeck Fault → Status → Type 0
 MayAnswer (Ok deck) Done = Unit {0}
 MayAnswer (Ok deck) (ReadFault file) = Unit {0}
 MayAnswer (Ok deck) (WriteFault out) = Unit {0}
@@ -43,13 +40,13 @@ MayAnswer (Ok deck) OutOfMemory = Unit {0}
 MayAnswer (Ok deck) BadWords = ⊥
 MayAnswer (Ok deck) (Refused fault) = ⊥
 MayAnswer (Ok deck) ScreenFault = ⊥
-MayAnswer (Err file) (Refused fault) = fault ≡ not_built file
-MayAnswer (Err file) (ReadFault other) = Unit {0}
-MayAnswer (Err file) OutOfMemory = Unit {0}
-MayAnswer (Err file) Done = ⊥
-MayAnswer (Err file) BadWords = ⊥
-MayAnswer (Err file) (WriteFault out) = ⊥
-MayAnswer (Err file) ScreenFault = ⊥
+MayAnswer (Err first) (Refused fault) = fault ≡ first
+MayAnswer (Err first) (ReadFault file) = Unit {0}
+MayAnswer (Err first) OutOfMemory = Unit {0}
+MayAnswer (Err first) Done = ⊥
+MayAnswer (Err first) BadWords = ⊥
+MayAnswer (Err first) (WriteFault out) = ⊥
+MayAnswer (Err first) ScreenFault = ⊥
 
 -- What a run of a deck leaves in the outputs. Done: all its writes are done. A fault of writing, or want of memory: those
 -- before the one that failed, or the first of them. Any other answer: nothing is written.
@@ -72,10 +69,10 @@ KeepsOuts (WriteFault out) before after = Unit {0}
 KeepsOuts ScreenFault before after = Unit {0}
 KeepsOuts OutOfMemory before after = Unit {0}
 
--- what is left where the files are no deck: nothing is written
-abbrev pub Leaves : Result PlainDeck FileId → Status → Option Outs → Option Outs → Type 0
+-- what is left: where the files have a fault, nothing is written
+abbrev pub Leaves : Result PlainDeck Fault → Status → Option Outs → Option Outs → Type 0
 Leaves (Ok deck) status before after = LeavesOuts deck status before after
-Leaves (Err file) status before after = after ≡ before
+Leaves (Err first) status before after = after ≡ before
 
 -- what a load that gave no text answers
 abbrev pub IsLoadFault : Status → Type 0

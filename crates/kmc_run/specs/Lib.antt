@@ -2,7 +2,7 @@ pub mod Answers
 pub mod PlainDecks
 pub mod PlainLattice
 pub mod PlainMechanism
-pub mod PlainSimulation
+pub mod PlainNames
 pub mod PlainText
 pub mod PlainViews
 pub mod Samples

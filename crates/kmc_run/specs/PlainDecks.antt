@@ -1,23 +1,92 @@
--- The deck that four plain files stand for, and the first file that is not plain.
-use Rattle.std.specs.Prelude.{ℕ, ◌*◌, ◌^◌, Bool, false, List, map, Option, None, Some, Result, Ok, Err, if◌then◌else◌, length, nat_le, pos}
+-- The deck that four texts stand for, or its first fault.
+use Rattle.std.specs.Prelude.{◌≡◌, ℕ, ◌*◌, ◌^◌, ◌&&◌, Bool, true, false, not, List, map, Option, None, Some, Result, Ok, Err, is_none, length, nat_le, pos}
+use Rattle.std.specs.List.{list_all}
+use Rattle.deck_shape.specs.LineFaults.{block_of_text}
+use Rattle.deck_shape.specs.Names.{NameWord}
+use Rattle.deck_shape.specs.declared.fault.DeckFault.{DeckFault}
+use Rattle.deck_shape.specs.declared.fault.DeckFault.TheVariants.{Fault as Faulty, OutOfMemory}
+use Rattle.deck_shape.specs.declared.fault.Fault.{Fault}
+use Rattle.deck_shape.specs.declared.kind.TheConstants.{FILE_ABSENT, FILE_TOO_LONG, NOT_BUILT}
+use Rattle.deck_shape.specs.declared.table.BlockKind.TheVariants.{Simulation as SimulationBlock}
 use Rattle.fixed_math.specs.DecimalLogarithm.{lg_of_decimal}
-use Rattle.kmc_base.specs.Files.{Files, file_of}
+use Rattle.kmc_base.specs.Files.{Files}
 use Rattle.kmc_base.specs.declared.ids.FileId.{FileId}
-use Rattle.kmc_base.specs.declared.ids.FileId.TheVariants.{Simulation as SimulationFile, Lattice, Energetics, Mechanism}
+use Rattle.kmc_base.specs.declared.ids.FileId.TheVariants.{Simulation, Lattice, Energetics, Mechanism}
 use Rattle.kmc_core.specs.declared.deck.PlainDeck.{PlainDeck}
 use Rattle.kmc_core.specs.declared.deck.PlainStep.{PlainStep}
+use Rattle.sim_deck.specs.Values.{SimValues, part_of}
+use Rattle.sim_deck.specs.declared.part.Sampling.{Sampling}
+use Rattle.sim_deck.specs.declared.part.Sampling.TheVariants.{Off, Event, Time}
+use Rattle.species_book.specs.Book.{Book}
 use Rattle.kmc_run.specs.PlainLattice.{sites_of}
 use Rattle.kmc_run.specs.PlainMechanism.{Step, is_plain_energetics, steps_of}
-use Rattle.kmc_run.specs.PlainSimulation.{Simulation, simulation_of}
-use Rattle.kmc_run.specs.PlainText.{found_if, ◌>>=◌}
+use Rattle.kmc_run.specs.PlainText.{found_if}
+use Rattle.kmc_run.specs.Texts.{texts_of}
+use Rattle.kmc_run.specs.declared.texts.Text.{Text}
+use Rattle.kmc_run.specs.declared.texts.Text.TheVariants.{Absent, TooLong, Bytes}
+use Rattle.kmc_run.specs.declared.texts.Texts.{Texts}
 
--- the greatest number of bytes of an input file
-abbrev pub most_bytes : ℕ
-most_bytes = 16777216
+-- go on with what was found, or with the first fault
+abbrev pub and_then : {X Y : Type 0} → Result X Fault → (X → Result Y Fault) → Result Y Fault
+and_then (Err fault) next = Err fault
+and_then (Ok x) next = next x
 
--- the text of a file that is there and is not too long
-abbrev pub text_of : Files → FileId → Option (List ℕ)
-text_of files file = file_of files file >>= λ bytes. found_if (nat_le (length bytes) most_bytes) bytes
+-- a fault of a file as a whole
+abbrev pub file_fault : FileId → ℕ → Fault
+file_fault file kind = record { file = file; line = 0; kind = kind }
+
+-- the fault of a file that is not of a form that is built
+abbrev pub not_built : FileId → Fault
+not_built file = file_fault file NOT_BUILT
+
+-- the bytes of a text that is there and is not too long
+abbrev pub bytes_in : FileId → Text → Result (List ℕ) Fault
+bytes_in file Absent = Err (file_fault file FILE_ABSENT)
+bytes_in file TooLong = Err (file_fault file FILE_TOO_LONG)
+bytes_in file (Bytes bytes) = Ok bytes
+
+-- what is read of a file, or its fault, which is at a line and of a kind
+abbrev pub in_file : {X : Type 0} → FileId → Result X (ℕ × ℕ) → Result X Fault
+in_file file (Err fault) = Err (record { file = file; line = fault.0; kind = fault.1 })
+in_file file (Ok x) = Ok x
+
+-- what is found in a file that is of a form that is built
+abbrev pub built_in : {X : Type 0} → FileId → Option X → Result X Fault
+built_in file None = Err (not_built file)
+built_in file (Some x) = Ok x
+
+-- the values of a simulation file: its faults of form come before those of its values
+abbrev pub values_in : List ℕ → Result SimValues Fault
+values_in text = and_then (in_file Simulation (block_of_text SimulationBlock text)) (λ block. in_file Simulation (part_of block))
+
+-- an output is never sampled
+abbrev pub is_off : Sampling → Bool
+is_off Off = true
+is_off (Event period) = false
+is_off (Time period) = false
+
+-- an output is sampled at times
+abbrev pub is_on_time : Sampling → Bool
+is_on_time Off = false
+is_on_time (Event period) = false
+is_on_time (Time period) = true
+
+-- A simulation file is built where it has no snapshots and no process statistics, species numbers are not sampled at
+-- times, the time has no end, and no species has several dentates.
+unfoldable pub is_built : SimValues → Bool
+is_built values =
+    is_off values.plan.history
+    && (is_off values.plan.procstat
+    && (not (is_on_time values.plan.specnum)
+    && (is_none values.plan.max_time && list_all (λ dentates. nat_le dentates 1) values.dentates)))
+
+-- the bytes of names
+abbrev pub words_of : List NameWord → List (List ℕ)
+words_of names = map (λ name. name.word.bytes) names
+
+-- the species of a simulation file
+abbrev pub book_of : SimValues → Book
+book_of values = record { gas = words_of values.gas; surface = words_of values.surface; dentates = values.dentates }
 
 -- a step of the deck: the logarithm of its pre-exponential factor, and its activation energy in neV
 abbrev pub plain_step : Step → PlainStep
@@ -28,52 +97,44 @@ plain_step step = record {
   activation = pos (step.activation * 10 ^ 9);
 }
 
--- the deck of the values of the files, with its temperature in mK
-abbrev pub plain_deck : Simulation → ℕ → List Step → PlainDeck
-plain_deck simulation sites steps = record {
-  seed = simulation.seed;
-  temperature = simulation.temperature * 1000;
+-- the deck of what the files say
+abbrev pub plain_deck : SimValues → ℕ → List Step → PlainDeck
+plain_deck values sites steps = record {
+  temperature = values.temperature;
   sites = sites;
-  species = simulation.species;
+  plan = values.plan;
+  book = book_of values;
+  gas = length values.gas;
   steps = map plain_step steps;
-  period = simulation.period;
-  max_steps = simulation.max_steps;
 }
 
--- what a text gives, if there is one and it is plain
-abbrev pub simulation_in : Option (List ℕ) → Option Simulation
-simulation_in text = text >>= simulation_of
-
-abbrev pub sites_in : Option (List ℕ) → Option ℕ
-sites_in text = text >>= sites_of
-
-abbrev pub steps_in : List ℕ → Option (List ℕ) → Option (List Step)
-steps_in species text = text >>= steps_of species
-
-abbrev pub has_energetics : Option (List ℕ) → Bool
-has_energetics None = false
-has_energetics (Some text) = is_plain_energetics text
-
--- what was found in a file, or the file
-abbrev pub found_in : {X : Type 0} → FileId → Option X → Result X FileId
-found_in file None = Err file
-found_in file (Some x) = Ok x
-
--- go on with what was found, or with the first file where nothing was
-abbrev pub and_then : {X Y : Type 0} → Result X FileId → (X → Result Y FileId) → Result Y FileId
-and_then (Err file) next = Err file
-and_then (Ok x) next = next x
-
--- The deck of four texts, or the first file that is not plain. A file that is absent or too long has no text. The
--- mechanism is read over the species of the simulation file.
-unfoldable pub deck_of : Option (List ℕ) → Option (List ℕ) → Option (List ℕ) → Option (List ℕ) → Result PlainDeck FileId
-deck_of simulation lattice energetics mechanism =
-    and_then (found_in SimulationFile (simulation_in simulation)) (λ values.
-    and_then (found_in Lattice (sites_in lattice)) (λ sites.
-    and_then (if has_energetics energetics then Ok sites else Err Energetics) (λ sites.
-    and_then (found_in Mechanism (steps_in values.species mechanism)) (λ steps.
+-- The deck of the values of a simulation file and the texts of the three other files, or the first file of the four
+-- that is not of a form that is built. The mechanism is read over the names of the surface species.
+unfoldable pub deck_with : SimValues → List ℕ → List ℕ → List ℕ → Result PlainDeck Fault
+deck_with values lattice energetics mechanism =
+    and_then (built_in Simulation (found_if (is_built values) (tt {0}))) (λ _.
+    and_then (built_in Lattice (sites_of lattice)) (λ sites.
+    and_then (built_in Energetics (found_if (is_plain_energetics energetics) (tt {0}))) (λ _.
+    and_then (built_in Mechanism (steps_of (words_of values.surface) mechanism)) (λ steps.
     Ok (plain_deck values sites steps)))))
 
+-- The deck of four texts, or its first fault: first, file by file, whether a text is there and not too long; then the
+-- simulation file; and then what is not built.
+unfoldable pub deck_of : Texts → Result PlainDeck Fault
+deck_of texts =
+    and_then (bytes_in Simulation texts.simulation) (λ simulation.
+    and_then (bytes_in Lattice texts.lattice) (λ lattice.
+    and_then (bytes_in Energetics texts.energetics) (λ energetics.
+    and_then (bytes_in Mechanism texts.mechanism) (λ mechanism.
+    and_then (values_in simulation) (λ values.
+    deck_with values lattice energetics mechanism)))))
+
 -- the deck of the files of a folder
-abbrev pub deck_of_files : Files → Result PlainDeck FileId
-deck_of_files files = deck_of (text_of files SimulationFile) (text_of files Lattice) (text_of files Energetics) (text_of files Mechanism)
+abbrev pub deck_of_files : Files → Result PlainDeck Fault
+deck_of_files files = deck_of (texts_of files)
+
+-- What a reader gave, seen by a view, is what a definition gives: a value, or its fault. Want of memory says nothing.
+abbrev pub Reads : {X Y : Type 0} → (X → Y) → Result X DeckFault → Result Y Fault → Type 0
+Reads view (Ok x) given = given ≡ Ok (view x)
+Reads view (Err (Faulty fault)) given = given ≡ Err fault
+Reads view (Err OutOfMemory) given = Unit {0}

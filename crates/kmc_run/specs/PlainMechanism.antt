@@ -1,15 +1,19 @@
 -- The plain form of the mechanism file, and that of the energetics file.
-use Rattle.std.specs.Prelude.{ℕ, zero, suc, ◌+◌, ◌/◌, ◌%◌, ◌==◌, ◌&&◌, Bool, true, false, not, List, [], ◌∷◌, Option, None, Some, if◌then◌else◌, is_some, length, nat_le, codes}
+use Rattle.std.specs.Prelude.{ℕ, zero, suc, ◌+◌, ◌/◌, ◌%◌, ◌==◌, ◌&&◌, ◌≤◌, Bool, true, false, not, List, [], ◌∷◌, Option, None, Some, if◌then◌else◌, is_some, length, nat_le, codes}
 use Rattle.std.specs.List.{list_any}
-use Rattle.kmc_run.specs.PlainSimulation.{is_name}
+use Rattle.std.specs.Option.{option_map}
+use Rattle.kmc_base.specs.declared.ids.SpeciesId.{SpeciesId}
+use Rattle.kmc_core.specs.Deck.{IsState}
+use Rattle.species_book.specs.Book.{place_of, species}
+use Rattle.kmc_run.specs.PlainNames.{is_name}
 use Rattle.kmc_run.specs.PlainText.{Word, Line, pieces, first_line, after_words, one_word, number_of, lines_of, same_word, word_after, number_after, words_only, nothing, found_if, ◌>>=◌}
 
--- a step on one site: whether the site holds the species before and after, the pre-exponential factor in 1/s as
--- digits and a power of ten, and the activation energy in eV
+-- a step on one site: the species on the site before and after, or None where it is vacant, the pre-exponential
+-- factor in 1/s as digits and a power of ten, and the activation energy in eV
 pub record Step : Type 0 where
   pub label : Word
-  pub before : Bool
-  pub after : Bool
+  pub before : Option SpeciesId
+  pub after : Option SpeciesId
   pub digits : ℕ
   pub power : ℕ
   pub activation : ℕ
@@ -37,33 +41,39 @@ unfoldable pub factor_of : Word → Option (ℕ × ℕ)
 factor_of word = digits_and_power (pieces 101 word) >>= λ n.
     found_if (nat_le (shortened 18 n.0 n.1).1 400) (shortened 18 n.0 n.1)
 
--- a state row's species: `*` for a vacant site, or the name of the species
-unfoldable pub holds : Word → Word → Option Bool
-holds species word =
-    if same_word word (codes "*") then Some false else (if same_word word species then Some true else None)
+-- its states are of so many species, and its activation energy is at most 1,000 eV
+pub record IsPlainStep (count : ℕ) (step : Step) : Type 0 where
+  pub before : IsState count step.before
+  pub after : IsState count step.after
+  pub activation : step.activation ≤ 1000
+
+-- a state row's species: `*` for a vacant site, or the name of a surface species
+unfoldable pub state_named : List Word → Word → Option (Option SpeciesId)
+state_named names word =
+    if same_word word (codes "*") then Some None else option_map Some (option_map species (place_of names word))
 
 -- a state row `1 Q 1`
-unfoldable pub state_row : Word → Line → Option Bool
-state_row species (entity ∷ name ∷ dentate ∷ []) =
-    if same_word entity (codes "1") && same_word dentate (codes "1") then holds species name else None
-state_row species [] = None
-state_row species (entity ∷ []) = None
-state_row species (entity ∷ name ∷ []) = None
-state_row species (entity ∷ name ∷ dentate ∷ next ∷ others) = None
+unfoldable pub state_row : List Word → Line → Option (Option SpeciesId)
+state_row names (entity ∷ name ∷ dentate ∷ []) =
+    if same_word entity (codes "1") && same_word dentate (codes "1") then state_named names name else None
+state_row names [] = None
+state_row names (entity ∷ []) = None
+state_row names (entity ∷ name ∷ []) = None
+state_row names (entity ∷ name ∷ dentate ∷ next ∷ others) = None
 
 -- the first line has the pre-exponential factor
 unfoldable pub factor_after : List Line → Option ((ℕ × ℕ) × List Line)
 factor_after lines = first_line (λ line. after_words (codes "pre_expon" ∷ []) line >>= one_word >>= factor_of) lines
 
 -- the first step, and the lines after it
-unfoldable pub first_step : Word → List Line → Option (Step × List Line)
-first_step species lines = do
+unfoldable pub first_step : List Word → List Line → Option (Step × List Line)
+first_step names lines = do
   label ← word_after (codes "step" ∷ []) lines
   sites ← words_only (codes "sites" ∷ codes "1" ∷ []) label.1
   initial ← words_only (codes "initial" ∷ []) sites
-  before ← first_line (state_row species) initial
+  before ← first_line (state_row names) initial
   final ← words_only (codes "final" ∷ []) before.1
-  after ← first_line (state_row species) final
+  after ← first_line (state_row names) final
   factor ← factor_after after.1
   activation ← number_after (codes "activ_eng" ∷ []) factor.1
   rest ← words_only (codes "end_step" ∷ []) activation.1
@@ -79,12 +89,12 @@ unfoldable pub closes : List Line → Bool
 closes lines = is_some (words_only (codes "end_mechanism" ∷ []) lines)
 
 -- the steps up to the closing word, at most so many
-unfoldable pub steps_from : ℕ → Word → List Line → Option (List Step)
-steps_from zero species lines = found_if (is_some (closing lines)) []
-steps_from (suc most) species lines =
+unfoldable pub steps_from : ℕ → List Word → List Line → Option (List Step)
+steps_from zero names lines = found_if (is_some (closing lines)) []
+steps_from (suc most) names lines =
     if closes lines
     then found_if (is_some (closing lines)) []
-    else (first_step species lines >>= (λ step. steps_from most species step.1 >>= (λ steps. Some (step.0 ∷ steps))))
+    else (first_step names lines >>= (λ step. steps_from most names step.1 >>= (λ steps. Some (step.0 ∷ steps))))
 
 -- a label stands among those of some steps
 unfoldable pub labelled : Word → List Step → Bool
@@ -95,11 +105,11 @@ unfoldable pub labels_differ : List Step → Bool
 labels_differ [] = true
 labels_differ (step ∷ steps) = not (labelled step.label steps) && labels_differ steps
 
--- the steps of a plain mechanism file over the name of the species, 1 to 16, or None of any other text
-unfoldable pub steps_of : Word → List ℕ → Option (List Step)
-steps_of species text = do
+-- the steps of a plain mechanism file over the names of the surface species, 1 to 16, or None of any other text
+unfoldable pub steps_of : List Word → List ℕ → Option (List Step)
+steps_of names text = do
   first ← words_only (codes "mechanism" ∷ []) (lines_of text)
-  steps ← steps_from 16 species first
+  steps ← steps_from 16 names first
   found_if (nat_le 1 (length steps) && labels_differ steps) steps
 
 -- a plain energetics file is its opening and its closing word

@@ -1,6 +1,7 @@
--- The layout of specnum_output.txt: the numbers of adsorbates.
+-- The layout of specnum_output.txt: the numbers of adsorbates and of gas molecules.
 use Rattle.std.specs.Prelude.{ℕ, zero, suc, ◌+◌, ◌/◌, ◌%◌, ◌^◌, List, [], ◌∷◌, ◌++◌, codes}
 use Rattle.std.specs.Fmt.{decimal}
+use Rattle.std.specs.List.{flat_map}
 
 -- the lowest so many digits of a number, the highest of them first
 abbrev pub low_digits : ℕ → ℕ → List ℕ
@@ -11,18 +12,25 @@ low_digits (suc count) n = (48 + n / 10 ^ count % 10) ∷ low_digits count n
 abbrev pub fixed_point : ℕ → ℕ → List ℕ
 fixed_point places n = decimal (n / 10 ^ places) ++ 46 ∷ low_digits places n
 
--- a word with a space (32) after it
-abbrev pub spaced : List ℕ → List ℕ
-spaced word = word ++ 32 ∷ []
+-- a word that follows another on its line, after a space (32)
+abbrev pub next_word : List ℕ → List ℕ
+next_word word = 32 ∷ word
 
--- the two head lines, over the name of the species (LF is 10)
-unfoldable pub specnum_head : List ℕ → List ℕ
-specnum_head species =
-    codes "specnum 1" ++ 10 ∷ codes "columns sample event time temperature energy " ++ species ++ 10 ∷ []
+-- names, and counts, that follow on a line
+abbrev pub next_names : List (List ℕ) → List ℕ
+next_names names = flat_map next_word names
+
+abbrev pub next_counts : List ℕ → List ℕ
+next_counts counts = flat_map (λ count. next_word (decimal count)) counts
+
+-- the two head lines, over the names of the surface species and of the gas species (LF is 10)
+unfoldable pub specnum_head : List (List ℕ) → List (List ℕ) → List ℕ
+specnum_head surface gas =
+    codes "specnum 1" ++ 10 ∷ codes "columns sample event time temperature energy" ++ next_names surface ++ next_names gas ++ 10 ∷ []
 
 -- a sample's line: its number, the event, the time in as, the temperature in mK, the energy in neV (0 here), and the
--- number of adsorbates
-unfoldable pub specnum_line : ℕ → ℕ → ℕ → ℕ → ℕ → List ℕ
-specnum_line sample event time temperature count =
-    spaced (decimal sample) ++ spaced (decimal event) ++ spaced (fixed_point 18 time) ++ spaced (fixed_point 3 temperature)
-    ++ spaced (fixed_point 9 0) ++ decimal count ++ 10 ∷ []
+-- numbers of adsorbates and of gas molecules
+unfoldable pub specnum_line : ℕ → ℕ → ℕ → ℕ → List ℕ → List ℕ → List ℕ
+specnum_line sample event time temperature surface gas =
+    decimal sample ++ next_word (decimal event) ++ next_word (fixed_point 18 time) ++ next_word (fixed_point 3 temperature)
+    ++ next_word (fixed_point 9 0) ++ next_counts surface ++ next_counts gas ++ 10 ∷ []

@@ -1,25 +1,36 @@
--- The loaded texts of the input files.
-use Rattle.std.specs.Prelude.{◌≡◌, ℕ, List, Option, Result, Vec}
-use Rattle.std.specs.Option.{option_map}
-use Rattle.std.specs.declared.alloc.Global.{Global}
-use Rattle.kmc_base.specs.Files.{Files}
+-- The texts of the input files.
+use Rattle.std.specs.Prelude.{ℕ, ◌≤◌, List, Option, None, Some, if◌then◌else◌, length, nat_le}
+use Rattle.kmc_base.specs.Files.{Files, file_of}
 use Rattle.kmc_base.specs.declared.ids.FileId.{FileId}
 use Rattle.kmc_base.specs.declared.ids.FileId.TheVariants.{Simulation, Lattice, Energetics, Mechanism}
-use Rattle.kmc_core.specs.declared.deck.PlainDeck.{PlainDeck}
-use Rattle.kmc_run.specs.PlainDecks.{deck_of, text_of}
+use Rattle.kmc_run.specs.declared.texts.Text.{Text}
+use Rattle.kmc_run.specs.declared.texts.Text.TheVariants.{Absent, TooLong, Bytes}
 use Rattle.kmc_run.specs.declared.texts.Texts.{Texts}
 
--- the bytes of a text that was loaded
-abbrev pub bytes : Option (Vec ℕ Global) → Option (List ℕ)
-bytes text = option_map (λ v. v.items) text
+-- the greatest number of bytes of an input file
+abbrev pub most_bytes : ℕ
+most_bytes = 16777216
 
--- these are the texts of the files of a folder
-pub record AreTextsOf (files : Files) (texts : Texts) : Type 0 where
-  pub simulation : bytes texts.simulation ≡ text_of files Simulation
-  pub lattice : bytes texts.lattice ≡ text_of files Lattice
-  pub energetics : bytes texts.energetics ≡ text_of files Energetics
-  pub mechanism : bytes texts.mechanism ≡ text_of files Mechanism
+-- the text that a file has by its bytes, where there is a file
+abbrev pub text_with : Option (List ℕ) → Text
+text_with None = Absent
+text_with (Some bytes) = if nat_le (length bytes) most_bytes then Bytes bytes else TooLong
 
--- the deck of loaded texts
-abbrev pub deck_of_texts : Texts → Result PlainDeck FileId
-deck_of_texts texts = deck_of (bytes texts.simulation) (bytes texts.lattice) (bytes texts.energetics) (bytes texts.mechanism)
+-- the text of a file of a folder
+abbrev pub text_of : Files → FileId → Text
+text_of files file = text_with (file_of files file)
+
+-- the texts of the four files of a deck
+abbrev pub texts_of : Files → Texts
+texts_of files = record {
+  simulation = text_of files Simulation;
+  lattice = text_of files Lattice;
+  energetics = text_of files Energetics;
+  mechanism = text_of files Mechanism;
+}
+
+-- a text has no more bytes than it may have
+abbrev pub IsShort : Text → Type 0
+IsShort Absent = Unit {0}
+IsShort TooLong = Unit {0}
+IsShort (Bytes bytes) = length bytes ≤ most_bytes

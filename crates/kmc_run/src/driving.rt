@@ -1,12 +1,13 @@
-ghost use Rattle.std.specs.Prelude.{◌≡◌, ◌≤◌, ℕ, pos, ◌++◌, ◌∷◌, [], List, IfOk, IfErr, OnOk, IsSomeAnd, Some};
+ghost use Rattle.std.specs.Prelude.{◌≡◌, ◌≤◌, ℕ, pos, ◌++◌, ◌∷◌, [], List, IfOk, IfErr, OnOk, IsSomeAnd, Some, replicate};
 ghost use Rattle.std.specs.List.{flat_map};
 ghost use Rattle.kmc_core.specs.Deck.{IsSound};
 ghost use Rattle.kmc_core.specs.OneSite.{trajectory_of};
 ghost use Rattle.kmc_core.specs.Run.{stop_of};
-ghost use Rattle.kmc_run.specs.Samples.{adsorbates, events_from, writes_at, writes_of};
+ghost use Rattle.kmc_run.specs.Samples.{IsWritten, adsorbates, events_from, writes_at, writes_of};
 ghost use Rattle.kmc_run.specs.Summaries.{IsSummary};
 ghost use Rattle.kmc_run.specs.Writes.{Done, Ended, HasCause, OnlyWrites};
 
+use crate::counting::adsorbates;
 use crate::drive_fault::DriveFault;
 use crate::summary::Summary;
 use crate::writing;
@@ -56,21 +57,22 @@ fn summary_of(alloc: Global, last: &Closed, stop: Stop) -> Result<Summary, OutOf
     ensures events { IfOk result (λ summary. summary.events ≡ last.now.event) }
     ensures stop { IfOk result (λ summary. summary.stop ≡ stop) }
     ensures time { IfOk result (λ summary. IsSomeAnd (trajectory_of last.now.deck last.now.event) (λ s. summary.time ≡ s.time)) }
-    ensures surface { IfOk result (λ summary. IsSomeAnd (trajectory_of last.now.deck last.now.event) (λ s. summary.surface ≡ adsorbates s.state ∷ [])) }
-    ensures others { IfOk result (λ summary. (summary.energy ≡ pos 0) × (summary.gas ≡ [])) }
+    ensures surface { IfOk result (λ summary. IsSomeAnd (trajectory_of last.now.deck last.now.event) (λ s. summary.surface ≡ adsorbates last.now.deck s.state)) }
+    ensures others { IfOk result (λ summary. (summary.energy ≡ pos 0) × (summary.gas ≡ replicate last.now.deck.gas (pos 0))) }
 {
-    let count = last.count();
+    let surface = adsorbates(alloc, last)?;
+    let gas = vec![in alloc; 0; last.deck().gas as usize]?;
     Ok(Summary {
         events: last.event(),
         time: last.time(),
         energy: 0,
-        surface: Items::new(vec![in alloc; count]?),
-        gas: Items::new(Vec::new(alloc)),
+        surface: Items::new(surface),
+        gas: Items::new(gas),
         stop,
     })
 }
 
-/// Runs a sound deck to its end, and writes its outputs.
+/// Runs a sound deck to its end, and writes its outputs. Its plan is one whose samples are all written.
 ///
 /// The workers, how many anchors there have to be for each (`spread`) and the gate are for the
 /// threads that share the work of an event; the run does not depend on them.
@@ -84,6 +86,7 @@ pub fn drive<R: Threads + Sync, F: Folder, G: Gate + Sync>(
     _spread: u32,
 ) -> Result<Summary, DriveFault>
     requires deck { IsSound deck }
+    requires written { IsWritten deck.plan }
     requires some_workers { 1 ≤ _workers }
     requires few_workers { _workers ≤ 64 }
     requires spread { 1 ≤ _spread }

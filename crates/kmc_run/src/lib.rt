@@ -1,15 +1,17 @@
 //! kmc as a library: the words, the deck, the run and what it writes.
 //!
 //! `run_program` is the program, from its words and the bytes of its input files to its status and
-//! the bytes of its outputs. It stands on `kmc_core` for the trajectory of a deck, and on the folder,
-//! the screen and the gate of `kmc_base` for the outside.
+//! the bytes of its outputs. It stands on `deck_shape` and `sim_deck` for the simulation file and its faults, on
+//! `species_book` for names, on `kmc_core` for the trajectory of a deck, and on the folder, the screen and the gate of
+//! `kmc_base` for the outside. The other three files are read in their plain form.
 #![tactic(auto)]
 
+mod counting;
 mod drive_fault;
 mod driving;
+mod joining;
 mod loading;
 mod plain;
-mod plain_deck;
 mod program;
 mod specnum;
 mod status;
@@ -19,8 +21,9 @@ mod tests;
 mod texts;
 mod writing;
 
+pub use deck_shape::Fault;
 pub use drive_fault::DriveFault;
 pub use driving::drive;
 pub use program::run_program;
-pub use status::{Fault, Status};
+pub use status::Status;
 pub use summary::Summary;

@@ -1,32 +1,29 @@
 ghost use Rattle.std.specs.Prelude.{◌≡◌, IfOk, IfErr, IfSome};
 ghost use Rattle.kmc_run.specs.Answers.{HasCause, IsLoadFault};
-ghost use Rattle.kmc_run.specs.PlainDecks.{text_of};
-ghost use Rattle.kmc_run.specs.Texts.{AreTextsOf, bytes};
+ghost use Rattle.kmc_run.specs.Texts.{IsShort, text_of, texts_of};
 ghost use Rattle.kmc_run.specs.Writes.{OnlyWrites};
 
 use crate::status::Status;
-use crate::texts::Texts;
-use kmc_base::{FileId, Folder, LoadFault};
+use crate::texts::{Text, Texts};
+use kmc_base::{FileId, Folder, Items, LoadFault};
 use std::alloc::Global;
 
 /// The greatest number of bytes of an input file.
 const MOST_BYTES: usize = 16_777_216;
 
-/// The text of an input file, or `None` where it is absent or too long.
-fn load_text<F: Folder>(
-    alloc: Global,
-    folder: &mut F,
-    file: FileId,
-) -> Result<Option<Vec<u8>>, Status>
-    ensures text { IfOk result (λ text. IfSome (F.files folder.old) (λ told. bytes text ≡ text_of told file)) }
+/// The text of an input file.
+fn load_text<F: Folder>(alloc: Global, folder: &mut F, file: FileId) -> Result<Text, Status>
+    ensures text { IfOk result (λ text. IfSome (F.files folder.old) (λ told. text ≡ text_of told file)) }
+    ensures short { IfOk result IsShort }
     ensures fault { IfErr result IsLoadFault }
     ensures cause { IfErr result (HasCause (F.read_faults folder.old) (F.read_faults folder.new) (F.write_faults folder.old) (F.write_faults folder.new)) }
     ensures outs { F.outs folder.new ≡ F.outs folder.old }
     ensures rest { OnlyWrites (F.files folder.old) (F.files folder.new) (F.read_faults folder.old) (F.read_faults folder.new) (F.write_faults folder.old) (F.write_faults folder.new) }
 {
     match folder.load(alloc, file, MOST_BYTES) {
-        Ok(text) => Ok(Some(text)),
-        Err(LoadFault::Absent | LoadFault::TooLong) => Ok(None),
+        Ok(bytes) if bytes.len() <= MOST_BYTES => Ok(Text::Bytes(Items::new(bytes))),
+        Ok(_) | Err(LoadFault::TooLong) => Ok(Text::TooLong),
+        Err(LoadFault::Absent) => Ok(Text::Absent),
         Err(LoadFault::Failed) => Err(Status::ReadFault(file)),
         Err(LoadFault::OutOfMemory) => Err(Status::OutOfMemory),
     }
@@ -34,7 +31,8 @@ fn load_text<F: Folder>(
 
 /// The texts of the four files of a deck, loaded in order. The first that fails ends it.
 pub(crate) fn load_texts<F: Folder>(alloc: Global, folder: &mut F) -> Result<Texts, Status>
-    ensures texts { IfOk result (λ texts. IfSome (F.files folder.old) (λ told. AreTextsOf told texts)) }
+    ensures texts { IfOk result (λ texts. IfSome (F.files folder.old) (λ told. texts ≡ texts_of told)) }
+    ensures short { IfOk result (λ texts. IsShort texts.simulation) }
     ensures fault { IfErr result IsLoadFault }
     ensures cause { IfErr result (HasCause (F.read_faults folder.old) (F.read_faults folder.new) (F.write_faults folder.old) (F.write_faults folder.new)) }
     ensures outs { F.outs folder.new ≡ F.outs folder.old }

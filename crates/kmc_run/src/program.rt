@@ -1,13 +1,14 @@
 ghost use Rattle.std.specs.Prelude.{◌≡◌, ◌≢◌, ◌↔◌, false, true, IfSome, IsTrue, map, string_bytes};
-ghost use Rattle.kmc_run.specs.Answers.{are_right, not_built, HasCause, KeepsOuts, Leaves, MayAnswer};
+ghost use Rattle.kmc_run.specs.Answers.{are_right, HasCause, KeepsOuts, Leaves, MayAnswer};
 ghost use Rattle.kmc_run.specs.PlainDecks.{deck_of_files};
 
 use crate::drive_fault::DriveFault;
 use crate::driving::drive;
+use crate::joining::read_deck;
 use crate::loading::load_texts;
-use crate::plain_deck::read_deck;
-use crate::status::{Fault, Status};
-use kmc_base::{FileId, Folder, Gate, Sink};
+use crate::status::Status;
+use deck_shape::DeckFault;
+use kmc_base::{Folder, Gate, Sink};
 use std::alloc::Global;
 use std::marker::Sync;
 use std::thread::Threads;
@@ -19,17 +20,6 @@ fn has_right_words(words: &[String]) -> bool
     match words {
         [word] => word.as_str() == "run",
         _ => false,
-    }
-}
-
-/// The fault of a file that is not of a form that is built.
-fn not_built(file: FileId) -> Fault
-    ensures { result ≡ not_built file }
-{
-    Fault {
-        file,
-        line: 0,
-        kind: 0,
     }
 }
 
@@ -53,9 +43,9 @@ fn run<R: Threads + Sync, F: Folder, G: Gate + Sync>(
         Err(status) => return status,
     };
     let deck = match read_deck(alloc, &texts) {
-        Ok(Ok(deck)) => deck,
-        Ok(Err(file)) => return Status::Refused(not_built(file)),
-        Err(_) => return Status::OutOfMemory,
+        Ok(deck) => deck,
+        Err(DeckFault::Fault(fault)) => return Status::Refused(fault),
+        Err(DeckFault::OutOfMemory) => return Status::OutOfMemory,
     };
     match drive(rt, alloc, deck, folder, gate, 1, 64) {
         Ok(_) => Status::Done,

@@ -1,6 +1,7 @@
 ghost use Rattle.std.specs.Prelude.{◌≡◌, ℕ, ◌+◌, ◌/◌, ◌^◌, ◌<◌, ◌≤◌, ◌++◌, ◌∷◌, [], IfOk, OnOk};
 ghost use Rattle.std.specs.Fmt.{decimal};
-ghost use Rattle.kmc_run.specs.Specnum.{low_digits, fixed_point, spaced, specnum_head, specnum_line};
+ghost use Rattle.kmc_run.specs.Specnum.{fixed_point, low_digits, next_counts, next_names, next_word, specnum_head, specnum_line};
+ghost use Rattle.species_book.specs.Book.{names_of};
 
 use kmc_base::OutOfMemory;
 use std::alloc::Global;
@@ -35,61 +36,91 @@ fn push_number(out: &mut Vec<u8>, number: u64) -> Result<(), OutOfMemory>
     Ok(())
 }
 
-/// Adds a number in digits, and a space.
-fn push_spaced(out: &mut Vec<u8>, number: u64) -> Result<(), OutOfMemory>
-    ensures { OnOk result (out.new.items ≡ out.old.items ++ spaced (decimal number)) }
+/// Adds a space, and a number in digits.
+fn push_next(out: &mut Vec<u8>, number: u64) -> Result<(), OutOfMemory>
+    ensures { OnOk result (out.new.items ≡ out.old.items ++ next_word (decimal number)) }
 {
-    push_number(out, number)?;
     out.push(b' ')?;
-    Ok(())
+    push_number(out, number)
 }
 
-/// Adds a number of units of 10^-places with its point, and a space. The whole part is below 2^64.
+/// Adds a space, and a number of units of 10^-places with its point. The whole part is below 2^64.
 fn push_fixed(out: &mut Vec<u8>, number: u128, places: u32) -> Result<(), OutOfMemory>
     requires places { places ≤ 18 }
     requires whole { number / 10 ^ places < 2 ^ 64 }
-    ensures { OnOk result (out.new.items ≡ out.old.items ++ spaced (fixed_point places number)) }
+    ensures { OnOk result (out.new.items ≡ out.old.items ++ next_word (fixed_point places number)) }
 {
-    push_number(out, (number / power_of_ten(places)) as u64)?;
+    push_next(out, (number / power_of_ten(places)) as u64)?;
     out.push(b'.')?;
-    push_digits(out, number, places)?;
-    out.push(b' ')?;
+    push_digits(out, number, places)
+}
+
+/// Adds names, with a space before each.
+fn push_names(out: &mut Vec<u8>, names: &[Vec<u8>]) -> Result<(), OutOfMemory>
+    ensures { OnOk result (out.new.items ≡ out.old.items ++ next_names (names_of names.now)) }
+{
+    for name in names {
+        out.push(b' ')?;
+        out.extend_from_slice(name)?;
+    }
     Ok(())
 }
 
-/// The head of the output of species numbers, over the name of the species.
+/// Adds counts, with a space before each.
+fn push_counts(out: &mut Vec<u8>, counts: &[u64]) -> Result<(), OutOfMemory>
+    ensures { OnOk result (out.new.items ≡ out.old.items ++ next_counts counts.now) }
+{
+    for count in counts {
+        push_next(out, *count)?;
+    }
+    Ok(())
+}
+
+/// The head of the output of species numbers, over the names of the surface species and of the gas species.
 #[tactic(auto, unfolding(crate::specs::Specnum::specnum_head))]
-pub(crate) fn head(alloc: Global, species: &[u8]) -> Result<Vec<u8>, OutOfMemory>
-    ensures { IfOk result (λ text. text.items ≡ specnum_head species.now) }
+pub(crate) fn head(
+    alloc: Global,
+    surface: &[Vec<u8>],
+    gas: &[Vec<u8>],
+) -> Result<Vec<u8>, OutOfMemory>
+    ensures { IfOk result (λ text. text.items ≡ specnum_head (names_of surface.now) (names_of gas.now)) }
 {
     let mut out = Vec::new(alloc);
-    out.extend_from_slice(b"specnum 1\ncolumns sample event time temperature energy ")?;
-    out.extend_from_slice(species)?;
+    out.extend_from_slice(b"specnum 1\ncolumns sample event time temperature energy")?;
+    push_names(&mut out, surface)?;
+    push_names(&mut out, gas)?;
     out.push(b'\n')?;
     Ok(out)
 }
 
-/// The line of a sample: its number, the event, the time in as, the temperature in mK, and the
-/// number of adsorbates. The energy is 0.
+/// What a sample shows beside its counts: its number, the event, the time in as, and the temperature in mK.
+#[derive(Clone, Copy, Debug)]
+pub(crate) struct Moment {
+    pub(crate) sample: u64,
+    pub(crate) event: u64,
+    pub(crate) time: u128,
+    pub(crate) temperature: u32,
+}
+
+/// The line of a sample, with the numbers of adsorbates and of gas molecules. The energy is 0.
 #[tactic(auto, unfolding(crate::specs::Specnum::specnum_line))]
 pub(crate) fn line(
     alloc: Global,
-    sample: u64,
-    event: u64,
-    time: u128,
-    temperature: u32,
-    count: u64,
+    moment: Moment,
+    surface: &[u64],
+    gas: &[u64],
 ) -> Result<Vec<u8>, OutOfMemory>
-    requires { time ≤ 10 ^ 30 }
-    ensures { IfOk result (λ text. text.items ≡ specnum_line sample event time temperature count) }
+    requires { moment.time ≤ 10 ^ 30 }
+    ensures { IfOk result (λ text. text.items ≡ specnum_line moment.sample moment.event moment.time moment.temperature surface.now gas.now) }
 {
     let mut out = Vec::new(alloc);
-    push_spaced(&mut out, sample)?;
-    push_spaced(&mut out, event)?;
-    push_fixed(&mut out, time, 18)?;
-    push_fixed(&mut out, u128::from(temperature), 3)?;
+    push_number(&mut out, moment.sample)?;
+    push_next(&mut out, moment.event)?;
+    push_fixed(&mut out, moment.time, 18)?;
+    push_fixed(&mut out, u128::from(moment.temperature), 3)?;
     push_fixed(&mut out, 0, 9)?;
-    push_number(&mut out, count)?;
+    push_counts(&mut out, surface)?;
+    push_counts(&mut out, gas)?;
     out.push(b'\n')?;
     Ok(out)
 }

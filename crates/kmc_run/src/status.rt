@@ -1,17 +1,10 @@
 ghost use Rattle.std.specs.Prelude.{◌≡◌};
 
+use deck_shape::Fault;
 use kmc_base::{FileId, OutId};
 
-/// A fault of a deck: the file, the line (0 for the file as a whole) and the kind.
-#[derive(Clone, Copy, Debug, PartialEq, Eq, Hash)]
-pub struct Fault {
-    pub file: FileId,
-    pub line: u32,
-    pub kind: u8,
-}
-
 /// How a run of the program ended.
-#[derive(Clone, Copy, Debug, PartialEq, Eq, Hash)]
+#[derive(Clone, Copy, Debug, PartialEq, Eq)]
 pub enum Status {
     /// All was done.
     Done,

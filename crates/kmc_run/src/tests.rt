@@ -1,6 +1,9 @@
 use super::*;
-use kmc_base::{FileId, Items, MemoryFolder, MemorySink, OpenGate, OutId};
+use deck_shape::kind;
+use kmc_base::{FileId, Items, MemoryFolder, MemorySink, OpenGate, OutId, SpeciesId};
 use kmc_core::{PlainDeck, PlainStep, Stop};
+use sim_deck::{Plan, Sampling};
+use species_book::SpeciesBook;
 use std::alloc::Global;
 use std::marker::Sync;
 use std::test::Fail;
@@ -10,122 +13,274 @@ const LATTICE: &str = "lattice default_choice\nrectangular_periodic 1 2 2\nend_l
 
 const ENERGETICS: &str = "energetics\nend_energetics\n";
 
-// A simulation file of one species with a greatest number of events.
-fn simulation(alloc: Global, max_steps: u64) -> Result<String, Fail> {
-    let text = format!(in alloc;
-        "random_seed 1\ntemperature 500\npressure 1\nn_surf_species 1\nsurf_specs_names A*\nsurf_specs_dent 1\nspecies_numbers on event 1\nmax_steps {max_steps}\nfinish\n"
-    )?;
-    Ok(text)
+/// A step from a vacant site to a vacant site, whose waits are all 1 as.
+const STAYS: &str =
+    "mechanism\nstep one\nsites 1\ninitial\n1 * 1\nfinal\n1 * 1\npre_expon 1e300\nactiv_eng 0\nend_step\nend_mechanism\n";
+
+/// The same to a site that holds the species.
+const FILLS: &str =
+    "mechanism\nstep one\nsites 1\ninitial\n1 * 1\nfinal\n1 A* 1\npre_expon 1e300\nactiv_eng 0\nend_step\nend_mechanism\n";
+
+/// A simulation file with no sampling.
+const SIMULATION: [&str; 11] = [
+    "random_seed 1\n",
+    "temperature 500.0\n",
+    "pressure 1.0\n",
+    "n_gas_species 1\n",
+    "gas_specs_names A\n",
+    "gas_energies 0.0\n",
+    "gas_molar_fracs 1.0\n",
+    "n_surf_species 1\n",
+    "surf_specs_names A*\n",
+    "surf_specs_dent 1\n",
+    "finish\n",
+];
+
+/// The same, with a sample at every event.
+const SAMPLED: &str =
+    "random_seed 1\ntemperature 500.0\npressure 1.0\nn_gas_species 1\ngas_specs_names A\ngas_energies 0.0\ngas_molar_fracs 1.0\nn_surf_species 1\nsurf_specs_names A*\nsurf_specs_dent 1\nspecies_numbers on event 1\nfinish\n";
+
+/// That simulation file with another text in the place of a line.
+fn simulation_with(alloc: Global, place: usize, text: &str) -> Result<String, Fail> {
+    let mut whole = String::new(alloc);
+    for (index, line) in SIMULATION.iter().enumerate() {
+        whole.push_str(if index == place { text } else { line })?;
+    }
+    Ok(whole)
 }
 
-// A mechanism of one step from a vacant site, whose waits are all 1 as.
-fn mechanism(alloc: Global, after: &str) -> Result<String, Fail> {
-    let text = format!(in alloc;
-        "mechanism\nstep one\nsites 1\ninitial\n1 * 1\nfinal\n1 {after} 1\npre_expon 1e300\nactiv_eng 0\nend_step\nend_mechanism\n"
-    )?;
-    Ok(text)
+/// Adds a file, unless its text is empty.
+fn push_file(files: &mut Vec<(FileId, Vec<u8>)>, id: FileId, text: &str) -> Result<(), Fail> {
+    if !text.is_empty() {
+        let bytes = Vec::from_slice(*files.allocator(), text.as_bytes())?;
+        files.push((id, bytes))?;
+    }
+    Ok(())
 }
 
-fn file(alloc: Global, id: FileId, text: &str) -> Result<(FileId, Vec<u8>), Fail> {
-    Ok((id, Vec::from_slice(alloc, text.as_bytes())?))
-}
-
-// A folder of a deck, of which these loads and appends fail.
+/// A folder of these files, of which this load and this append fail, counted from 1.
 fn folder(
     alloc: Global,
-    max_steps: u64,
-    after: &str,
+    simulation: &str,
     lattice: &str,
-    loads: &[u64],
-    appends: &[u64],
+    energetics: &str,
+    mechanism: &str,
+    load: u64,
+    append: u64,
 ) -> Result<MemoryFolder, Fail> {
-    let simulation = simulation(alloc, max_steps)?;
-    let mechanism = mechanism(alloc, after)?;
-    let files = vec![in alloc;
-        file(alloc, FileId::Simulation, &simulation)?,
-        file(alloc, FileId::Lattice, lattice)?,
-        file(alloc, FileId::Energetics, ENERGETICS)?,
-        file(alloc, FileId::Mechanism, &mechanism)?,
-    ]?;
+    let mut files = Vec::new(alloc);
+    push_file(&mut files, FileId::Simulation, simulation)?;
+    push_file(&mut files, FileId::Lattice, lattice)?;
+    push_file(&mut files, FileId::Energetics, energetics)?;
+    push_file(&mut files, FileId::Mechanism, mechanism)?;
     let folder = MemoryFolder::new(
         files,
-        Vec::from_slice(alloc, loads)?,
+        vec![in alloc; load]?,
         Vec::new(alloc),
-        Vec::from_slice(alloc, appends)?,
+        vec![in alloc; append]?,
     );
     Ok(folder.with_room(1000).map_err(|(_, error)| error)?)
 }
 
-// The status of the program over a folder, with these words.
+/// The status of the program over a folder, where a word is given so many times.
 fn run<R: Threads + Sync>(
     rt: &R,
     alloc: Global,
-    words: &[&str],
+    word: &str,
+    times: u8,
     folder: &mut MemoryFolder,
 ) -> Result<Status, Fail> {
-    let mut list = Vec::new(alloc);
-    for word in words {
-        list.push(String::from_str(alloc, word)?)?;
+    let mut words = Vec::new(alloc);
+    for _ in 0..times {
+        words.push(String::from_str(alloc, word)?)?;
     }
     let mut screen = MemorySink::new(alloc, 0, Vec::new(alloc)).map_err(|(_, error)| error)?;
-    Ok(run_program(rt, alloc, &list, folder, &mut screen, &OpenGate))
+    Ok(run_program(rt, alloc, &words, folder, &mut screen, &OpenGate))
+}
+
+/// A refusal by the first fault.
+fn refused(file: FileId, line: u32, kind: u8) -> Status {
+    Status::Refused(Fault { file, line, kind })
 }
 
 #[test]
 fn writes_the_samples_of_whole_runs(rt: HostRuntime) -> Result<(), Fail> {
-    const HEAD: &str = "specnum 1\ncolumns sample event time temperature energy A*\n";
-    const NOTHING: &str = "0 0 0.000000000000000000 500.000 0.000000000 0\n";
-    const STAYS: &str =
-        "1 1 0.000000000000000001 500.000 0.000000000 0\n2 2 0.000000000000000001 500.000 0.000000000 0\n3 3 0.000000000000000001 500.000 0.000000000 0\n4 4 0.000000000000000001 500.000 0.000000000 0\n5 5 0.000000000000000002 500.000 0.000000000 0\n";
-    const FILLS: &str =
-        "1 1 0.000000000000000001 500.000 0.000000000 1\n2 2 0.000000000000000001 500.000 0.000000000 2\n3 3 0.000000000000000001 500.000 0.000000000 3\n4 4 0.000000000000000001 500.000 0.000000000 4\n";
+    const RUNS: [(&str, &str, &str); 5] = [
+        (
+            "random_seed 1\ntemperature 500\npressure 1\nn_surf_species 1\nsurf_specs_names A*\nsurf_specs_dent 1\nspecies_numbers on event 1\nmax_steps 0\nfinish\n",
+            STAYS,
+            "specnum 1\ncolumns sample event time temperature energy A*\n0 0 0.000000000000000000 500.000 0.000000000 0\n",
+        ),
+        (
+            "random_seed 1\ntemperature 500\npressure 1\nn_surf_species 1\nsurf_specs_names A*\nsurf_specs_dent 1\nspecies_numbers on event 1\nmax_steps 5\nfinish\n",
+            STAYS,
+            "specnum 1\ncolumns sample event time temperature energy A*\n0 0 0.000000000000000000 500.000 0.000000000 0\n1 1 0.000000000000000001 500.000 0.000000000 0\n2 2 0.000000000000000001 500.000 0.000000000 0\n3 3 0.000000000000000001 500.000 0.000000000 0\n4 4 0.000000000000000001 500.000 0.000000000 0\n5 5 0.000000000000000002 500.000 0.000000000 0\n",
+        ),
+        (
+            "random_seed 1\ntemperature 500\npressure 1\nn_surf_species 1\nsurf_specs_names A*\nsurf_specs_dent 1\nspecies_numbers on event 1\nmax_steps 10\nfinish\n",
+            FILLS,
+            "specnum 1\ncolumns sample event time temperature energy A*\n0 0 0.000000000000000000 500.000 0.000000000 0\n1 1 0.000000000000000001 500.000 0.000000000 1\n2 2 0.000000000000000001 500.000 0.000000000 2\n3 3 0.000000000000000001 500.000 0.000000000 3\n4 4 0.000000000000000001 500.000 0.000000000 4\n",
+        ),
+        (
+            SAMPLED,
+            FILLS,
+            "specnum 1\ncolumns sample event time temperature energy A* A\n0 0 0.000000000000000000 500.000 0.000000000 0 0\n1 1 0.000000000000000001 500.000 0.000000000 1 0\n2 2 0.000000000000000001 500.000 0.000000000 2 0\n3 3 0.000000000000000001 500.000 0.000000000 3 0\n4 4 0.000000000000000001 500.000 0.000000000 4 0\n",
+        ),
+        (
+            "temperature 500.0\npressure 1.0\nn_surf_species 1\nsurf_specs_names A*\nsurf_specs_dent 1\nspecies_numbers off\nfinish\n",
+            FILLS,
+            "",
+        ),
+    ];
     let alloc = rt.alloc();
-    for (max_steps, after, samples) in [(0, "*", ""), (5, "*", STAYS), (10, "A*", FILLS)] {
-        let mut folder = folder(alloc, max_steps, after, LATTICE, &[], &[])?;
-        assert_eq!(rt; run(&rt, alloc, &["run"], &mut folder)?, Status::Done);
-        let expected = format!(in alloc; "{HEAD}{NOTHING}{samples}")?;
-        assert_eq!(rt; folder.output(OutId::Specnum), Some(expected.as_bytes()));
-        assert_eq!(rt; folder.output(OutId::History), None);
+    for (simulation, mechanism, output) in RUNS {
+        let mut folder = folder(alloc, simulation, LATTICE, ENERGETICS, mechanism, 0, 0)?;
+        assert_eq!(rt; run(&rt, alloc, "run", 1, &mut folder)?, Status::Done);
+        match folder.output(OutId::Specnum) {
+            Some(written) => assert_eq!(rt; written, output.as_bytes()),
+            None => assert!(rt; output.is_empty()),
+        }
     }
     Ok(())
 }
 
 #[test]
-fn refuses_with_its_cause(rt: HostRuntime) -> Result<(), Fail> {
+fn refuses_simulation_files(rt: HostRuntime) -> Result<(), Fail> {
+    const CASES: [(usize, &str, u32, u8); 8] = [
+        (10, "temperature 400.0\nfinish\n", 11, kind::REPEATED_WORD),
+        (2, "", 10, kind::MISSING_WORD),
+        (9, "surf_specs_dent 1 1\n", 10, kind::LIST_LENGTH),
+        (10, "snapshots on event\nfinish\n", 0, kind::NOT_BUILT),
+        (
+            10,
+            "process_statistics on event\nfinish\n",
+            0,
+            kind::NOT_BUILT,
+        ),
+        (
+            10,
+            "species_numbers on time 1.0\nfinish\n",
+            0,
+            kind::NOT_BUILT,
+        ),
+        (10, "max_time 1.0\nfinish\n", 0, kind::NOT_BUILT),
+        (9, "surf_specs_dent 2\n", 0, kind::NOT_BUILT),
+    ];
     let alloc = rt.alloc();
-    let not_plain = Fault {
-        file: FileId::Lattice,
-        line: 0,
-        kind: 0,
-    };
-    let mut other = folder(alloc, 5, "*", "lattice explicit\n", &[], &[])?;
-    let refused = run(&rt, alloc, &["run"], &mut other)?;
-    assert_eq!(rt; refused, Status::Refused(not_plain));
-    assert_eq!(rt; refused.number(), 3);
-    assert_eq!(rt; other.output(OutId::Specnum), None);
+    for (place, text, line, kind) in CASES {
+        let simulation = simulation_with(alloc, place, text)?;
+        let mut folder = folder(alloc, &simulation, LATTICE, ENERGETICS, FILLS, 0, 0)?;
+        let status = run(&rt, alloc, "run", 1, &mut folder)?;
+        assert_eq!(rt; status, refused(FileId::Simulation, line, kind), "{text}");
+    }
+    Ok(())
+}
 
-    let mut words = folder(alloc, 5, "*", LATTICE, &[], &[])?;
-    assert_eq!(rt;
-        run(&rt, alloc, &["run", "run"], &mut words)?,
-        Status::BadWords
-    );
-    assert_eq!(rt; run(&rt, alloc, &["walk"], &mut words)?, Status::BadWords);
-    assert_eq!(rt; run(&rt, alloc, &[], &mut words)?, Status::BadWords);
-    assert_eq!(rt; words.output(OutId::Specnum), None);
+#[test]
+fn answers_with_the_first_cause(rt: HostRuntime) -> Result<(), Fail> {
+    const EXPLICIT: &str = "lattice explicit\n";
+    let alloc = rt.alloc();
+    let absent = kind::FILE_ABSENT;
+    let not_built = kind::NOT_BUILT;
+    let cases = [
+        (
+            SAMPLED,
+            EXPLICIT,
+            "",
+            FILLS,
+            0,
+            0,
+            refused(FileId::Energetics, 0, absent),
+        ),
+        (
+            "finish\n",
+            LATTICE,
+            ENERGETICS,
+            "",
+            0,
+            0,
+            refused(FileId::Mechanism, 0, absent),
+        ),
+        (
+            SAMPLED,
+            EXPLICIT,
+            "more\n",
+            FILLS,
+            0,
+            0,
+            refused(FileId::Lattice, 0, not_built),
+        ),
+        (
+            SAMPLED,
+            LATTICE,
+            "more\n",
+            "more\n",
+            0,
+            0,
+            refused(FileId::Energetics, 0, not_built),
+        ),
+        (
+            SAMPLED,
+            LATTICE,
+            ENERGETICS,
+            "more\n",
+            0,
+            0,
+            refused(FileId::Mechanism, 0, not_built),
+        ),
+        (
+            "",
+            EXPLICIT,
+            "",
+            FILLS,
+            4,
+            0,
+            Status::ReadFault(FileId::Mechanism),
+        ),
+        (
+            SAMPLED,
+            LATTICE,
+            ENERGETICS,
+            FILLS,
+            2,
+            0,
+            Status::ReadFault(FileId::Lattice),
+        ),
+        (
+            SAMPLED,
+            LATTICE,
+            ENERGETICS,
+            FILLS,
+            0,
+            1,
+            Status::WriteFault(OutId::Specnum),
+        ),
+    ];
+    for (simulation, lattice, energetics, mechanism, load, append, expected) in cases {
+        let mut folder = folder(
+            alloc, simulation, lattice, energetics, mechanism, load, append,
+        )?;
+        assert_eq!(rt; run(&rt, alloc, "run", 1, &mut folder)?, expected);
+        assert_eq!(rt; folder.output(OutId::Specnum).is_some(), append == 1);
+    }
+    for (word, times) in [("run", 2), ("walk", 1), ("run", 0)] {
+        let mut folder = folder(alloc, SAMPLED, LATTICE, ENERGETICS, FILLS, 0, 0)?;
+        assert_eq!(rt;
+            run(&rt, alloc, word, times, &mut folder)?,
+            Status::BadWords
+        );
+    }
+    Ok(())
+}
 
-    let mut unread = folder(alloc, 5, "*", LATTICE, &[2], &[])?;
-    assert_eq!(rt;
-        run(&rt, alloc, &["run"], &mut unread)?,
-        Status::ReadFault(FileId::Lattice)
-    );
-    assert_eq!(rt; unread.output(OutId::Specnum), None);
-
-    let mut unwritten = folder(alloc, 5, "*", LATTICE, &[], &[1])?;
-    assert_eq!(rt;
-        run(&rt, alloc, &["run"], &mut unwritten)?,
-        Status::WriteFault(OutId::Specnum)
-    );
-    assert_eq!(rt; unwritten.output(OutId::Specnum), Some(b"".as_slice()));
+#[test]
+fn refuses_a_file_that_is_too_long(rt: HostRuntime) -> Result<(), Fail> {
+    let alloc = rt.alloc();
+    let long = String::from_utf8(vec![in alloc; b' '; 16_777_217]?)?;
+    let mut folder = folder(alloc, "finish\n", &long, ENERGETICS, "", 0, 0)?;
+    let status = run(&rt, alloc, "run", 1, &mut folder)?;
+    assert_eq!(rt; status, refused(FileId::Lattice, 0, kind::FILE_TOO_LONG));
+    assert_eq!(rt; status.number(), 3);
     Ok(())
 }
 
@@ -133,27 +288,35 @@ fn refuses_with_its_cause(rt: HostRuntime) -> Result<(), Fail> {
 fn drives_a_deck_to_its_last_event(rt: HostRuntime) -> Result<(), Fail> {
     let alloc = rt.alloc();
     let step = PlainStep {
-        before: false,
-        after: true,
+        before: None,
+        after: Some(SpeciesId(1)),
         factor: Some(1_070_067_939_600),
         activation: 0,
     };
+    let gas = vec![in alloc; Vec::from_slice(alloc, b"G")?]?;
+    let first = Vec::from_slice(alloc, b"A*")?;
+    let second = Vec::from_slice(alloc, b"B*")?;
+    let surface = vec![in alloc; first, second]?;
     let deck = PlainDeck {
-        seed: 1,
         temperature: 500_000,
         sites: 4,
-        species: Items::new(Vec::from_slice(alloc, b"A*")?),
+        plan: Plan {
+            seed: 1,
+            max_steps: 10,
+            max_time: None,
+            history: Sampling::Off,
+            procstat: Sampling::Off,
+            specnum: Sampling::Event(2),
+        },
+        book: SpeciesBook::new(gas, surface, vec![in alloc; 1, 1]?),
+        gas: 1,
         steps: Items::new(vec![in alloc; step]?),
-        period: 2,
-        max_steps: 10,
     };
-    let mut folder = folder(alloc, 0, "*", LATTICE, &[], &[])?;
+    let mut folder = folder(alloc, "", "", "", "", 0, 0)?;
     let summary = drive(&rt, alloc, deck, &mut folder, &OpenGate, 1, 64)?;
-    assert_eq!(rt; summary.events, 4);
-    assert_eq!(rt; summary.time, 1);
-    assert_eq!(rt; summary.energy, 0);
-    assert_eq!(rt; summary.surface.as_slice(), [4].as_slice());
-    assert_eq!(rt; summary.gas.len(), 0);
+    assert_eq!(rt; (summary.events, summary.time, summary.energy), (4, 1, 0));
+    assert_eq!(rt; summary.surface.as_slice(), [0, 4].as_slice());
+    assert_eq!(rt; summary.gas.as_slice(), [0].as_slice());
     assert_eq!(rt; summary.stop, Stop::Still);
     Ok(())
 }

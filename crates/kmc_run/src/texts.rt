@@ -1,8 +1,21 @@
-/// The loaded texts of a deck, each `None` where the file is absent or too long.
+use kmc_base::Items;
+
+/// The text of an input file.
+#[derive(Debug, Drop)]
+pub(crate) enum Text {
+    /// There is no such file.
+    Absent,
+    /// It has more than 16,777,216 bytes.
+    TooLong,
+    /// Its bytes.
+    Bytes(Items<u8>),
+}
+
+/// The texts of the four files of a deck.
 #[derive(Debug, Drop)]
 pub(crate) struct Texts {
-    pub(crate) simulation: Option<Vec<u8>>,
-    pub(crate) lattice: Option<Vec<u8>>,
-    pub(crate) energetics: Option<Vec<u8>>,
-    pub(crate) mechanism: Option<Vec<u8>>,
+    pub(crate) simulation: Text,
+    pub(crate) lattice: Text,
+    pub(crate) energetics: Text,
+    pub(crate) mechanism: Text,
 }

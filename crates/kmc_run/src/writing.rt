@@ -1,12 +1,16 @@
-ghost use Rattle.std.specs.Prelude.{◌≡◌, ◌≤◌, [], ◌∷◌, OnOk, IfErr};
+ghost use Rattle.std.specs.Prelude.{◌≡◌, ◌≤◌, [], ◌∷◌, OnOk, IfErr, IfOk, IfSome, IsSomeAnd, replicate};
 ghost use Rattle.kmc_core.specs.OneSite.{trajectory_of};
-ghost use Rattle.kmc_run.specs.Samples.{writes_at, writes_before};
+ghost use Rattle.sim_deck.specs.Soundness.{IsPeriod};
+ghost use Rattle.kmc_run.specs.Samples.{event_period, sample_line, writes_at, writes_before};
 ghost use Rattle.kmc_run.specs.Writes.{Begin, Append, Done, Ended, HasCause, OnlyWrites};
 
+use crate::counting::adsorbates;
 use crate::drive_fault::DriveFault;
 use crate::specnum;
-use kmc_base::{Folder, OutId};
+use crate::specnum::Moment;
+use kmc_base::{Folder, OutId, OutOfMemory};
 use kmc_core::{Closed, PlainDeck};
+use sim_deck::Sampling;
 use std::alloc::Global;
 
 /// Begins an output.
@@ -35,7 +39,18 @@ fn append<F: Folder>(folder: &mut F, out: OutId, piece: &[u8]) -> Result<(), Dri
     }
 }
 
-/// Begins the outputs of a run, and adds their heads.
+/// The events from one sample to the next, where an output is sampled at events.
+fn event_period(sampling: Sampling) -> Option<u64>
+    ensures value { result ≡ event_period sampling }
+    ensures some { IsPeriod sampling → IfSome result (λ period. 1 ≤ period) }
+{
+    match sampling {
+        Sampling::Event(period) => Some(period),
+        Sampling::Off | Sampling::Time(_) => None,
+    }
+}
+
+/// Begins the output of a run that is sampled, and adds its head.
 pub(crate) fn write_before<F: Folder>(
     alloc: Global,
     deck: &PlainDeck,
@@ -46,9 +61,39 @@ pub(crate) fn write_before<F: Folder>(
     ensures cause { IfErr result (HasCause (F.write_faults folder.old) (F.write_faults folder.new)) }
     ensures rest { OnlyWrites (F.files folder.old) (F.files folder.new) (F.read_faults folder.old) (F.read_faults folder.new) (F.write_faults folder.old) (F.write_faults folder.new) }
 {
-    let head = specnum::head(alloc, deck.species.as_slice())?;
+    let Some(_) = event_period(deck.plan.specnum) else {
+        return Ok(());
+    };
+    let head = specnum::head(alloc, deck.book.surface_names(), deck.book.gas_names())?;
     begin(folder, OutId::Specnum)?;
     append(folder, OutId::Specnum, &head)
+}
+
+/// A count of 0 for each gas species, of which nothing is produced or consumed.
+fn no_gas(alloc: Global, species: u8) -> Result<Vec<u64>, OutOfMemory>
+    ensures { IfOk result (λ counts. counts.items ≡ replicate species 0) }
+{
+    Ok(vec![in alloc; 0; species as usize]?)
+}
+
+/// The line of the sample at an event.
+fn sample_line(alloc: Global, closed: &Closed, period: u64) -> Result<Vec<u8>, OutOfMemory>
+    requires { 1 ≤ period }
+    ensures { IfOk result (λ text. IsSomeAnd (trajectory_of closed.now.deck closed.now.event)
+        (λ s. text.items ≡ sample_line closed.now.deck period closed.now.event s)) }
+{
+    let deck = closed.deck();
+    let event = closed.event();
+    let moment = Moment {
+        sample: event / period,
+        event,
+        time: closed.time(),
+        temperature: deck.temperature,
+    };
+    let surface = adsorbates(alloc, closed)?;
+    let gas = no_gas(alloc, deck.gas)?;
+    let line = specnum::line(alloc, moment, &surface, &gas)?;
+    Ok(line)
 }
 
 /// Adds the sample of an event, if one is due at it.
@@ -62,19 +107,12 @@ pub(crate) fn write_at<F: Folder>(
     ensures cause { IfErr result (HasCause (F.write_faults folder.old) (F.write_faults folder.new)) }
     ensures rest { OnlyWrites (F.files folder.old) (F.files folder.new) (F.read_faults folder.old) (F.read_faults folder.new) (F.write_faults folder.old) (F.write_faults folder.new) }
 {
-    let deck = closed.deck();
-    let event = closed.event();
-    if event % deck.period != 0 {
+    let Some(period) = event_period(closed.deck().plan.specnum) else {
+        return Ok(());
+    };
+    if closed.event() % period != 0 {
         return Ok(());
     }
-    let sample = event / deck.period;
-    let line = specnum::line(
-        alloc,
-        sample,
-        event,
-        closed.time(),
-        deck.temperature,
-        closed.count(),
-    )?;
+    let line = sample_line(alloc, closed, period)?;
     append(folder, OutId::Specnum, &line)
 }

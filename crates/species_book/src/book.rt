@@ -70,14 +70,16 @@ impl SpeciesBook {
 
     /// The names of the gas species, in order.
     pub fn gas_names(&self) -> &[Vec<u8>]
-        ensures { names_of result.now ≡ self.now.gas }
+        ensures names { names_of result.now ≡ self.now.gas }
+        ensures few { length result.now ≤ 64 }
     {
         self.gas.as_slice()
     }
 
     /// The names of the surface species, in order of their ids.
     pub fn surface_names(&self) -> &[Vec<u8>]
-        ensures { names_of result.now ≡ self.now.surface }
+        ensures names { names_of result.now ≡ self.now.surface }
+        ensures few { length result.now ≤ 64 }
     {
         self.surface.as_slice()
     }

@@ -1,9 +1,11 @@
 //! The plain form of the mechanism file.
 
 ghost use Rattle.std.specs.Prelude.{◌≡◌, ◌<◌, ◌≤◌, ◌^◌, ◌%◌, IfOk, IfSome, codes, is_some, length, map};
+ghost use Rattle.std.specs.List.{AllByRecursion};
 ghost use Rattle.std.specs.Option.{option_map};
+ghost use Rattle.kmc_core.specs.Deck.{IsState};
 ghost use Rattle.kmc_run.specs.PlainText.{Finds, found_if, first_line, lines_of, pieces, same_word};
-ghost use Rattle.kmc_run.specs.PlainMechanism.{shortened, power_of, digits_and_power, factor_of, holds, state_row, factor_after, first_step, closing, closes, steps_from, labelled, labels_differ, steps_of};
+ghost use Rattle.kmc_run.specs.PlainMechanism.{IsPlainStep, shortened, power_of, digits_and_power, factor_of, state_named, state_row, factor_after, first_step, closing, closes, steps_from, labelled, labels_differ, steps_of};
 ghost use Rattle.kmc_run.specs.PlainViews.{step_view};
 
 use crate::plain::name::is_name;
@@ -12,7 +14,8 @@ use crate::plain::text::{
     MOST_DIGITS, next_line, nothing_more, number_after, number_of, split_once, two_words,
     word_after, words_only,
 };
-use kmc_base::OutOfMemory;
+use kmc_base::{OutOfMemory, SpeciesId};
+use species_book::SpeciesBook;
 use std::alloc::Global;
 
 /// The most steps of a mechanism.
@@ -97,17 +100,18 @@ fn factor_of(word: &[u8]) -> Option<(u64, u32)>
     }
 }
 
-/// Whether a site holds the species: `*` is a vacant site.
-#[tactic(auto, unfolding(crate::specs::PlainMechanism::holds))]
-fn holds(species: &[u8], name: &[u8]) -> Option<bool>
-    ensures { Finds (λ held. held) result (holds species.now name.now) }
+/// The state of a site: `*` is a vacant one, any other name that of a surface species.
+#[tactic(auto, unfolding(crate::specs::PlainMechanism::state_named))]
+fn state_named(book: &SpeciesBook, name: &[u8]) -> Option<Option<SpeciesId>>
+    ensures value { Finds (λ state. state) result (state_named book.now.surface name.now) }
+    ensures known { IfSome result (IsState (length book.now.surface)) }
 {
     if name == b"*".as_slice() {
-        Some(false)
-    } else if name == species {
-        Some(true)
-    } else {
-        None
+        return Some(None);
+    }
+    match book.surface(name) {
+        Some(species) => Some(Some(species)),
+        None => None,
     }
 }
 
@@ -118,9 +122,10 @@ fn is_one(word: &[u8]) -> bool
     word == b"1".as_slice()
 }
 
-/// Whether the site of a line `1 Q 1` holds the species.
-fn state_row(species: &[u8], line: &[u8]) -> Option<bool>
-    ensures { Finds (λ held. held) result (state_row species.now (pieces 32 line.now)) }
+/// The state of the site of a line `1 Q 1`.
+fn state_row(book: &SpeciesBook, line: &[u8]) -> Option<Option<SpeciesId>>
+    ensures value { Finds (λ state. state) result (state_row book.now.surface (pieces 32 line.now)) }
+    ensures known { IfSome result (IsState (length book.now.surface)) }
 {
     let (entity, rest) = split_once(line, b' ')?;
     let (name, dentate) = two_words(rest)?;
@@ -130,16 +135,17 @@ fn state_row(species: &[u8], line: &[u8]) -> Option<bool>
     if !is_one(dentate) {
         return None;
     }
-    holds(species, name)
+    state_named(book, name)
 }
 
-/// Whether the site on the first line holds the species, and what follows the line.
-fn state_after<'a>(species: &[u8], text: &'a [u8]) -> Option<(bool, &'a [u8])>
-    ensures { Finds (λ found. (found.0, lines_of found.1.now)) result (first_line (state_row species.now) (lines_of text.now)) }
+/// The state of the site of the first line, and what follows the line.
+fn state_after<'a>(book: &SpeciesBook, text: &'a [u8]) -> Option<(Option<SpeciesId>, &'a [u8])>
+    ensures value { Finds (λ found. (found.0, lines_of found.1.now)) result (first_line (state_row book.now.surface) (lines_of text.now)) }
+    ensures known { IfSome result (λ found. IsState (length book.now.surface) found.0) }
 {
     let (line, rest) = next_line(text)?;
-    let held = state_row(species, line)?;
-    Some((held, rest))
+    let state = state_row(book, line)?;
+    Some((state, rest))
 }
 
 /// The pre-exponential factor on the first line, and what follows the line.
@@ -155,15 +161,16 @@ fn factor_after(text: &[u8]) -> Option<((u64, u32), &[u8])>
 
 /// The first step, and what follows its lines.
 #[tactic(auto, unfolding(crate::specs::PlainMechanism::first_step))]
-fn first_step<'a>(species: &[u8], text: &'a [u8]) -> Option<(StepText<'a>, &'a [u8])>
-    ensures { Finds (λ found. (step_view found.0, lines_of found.1.now)) result (first_step species.now (lines_of text.now)) }
+fn first_step<'a>(book: &SpeciesBook, text: &'a [u8]) -> Option<(StepText<'a>, &'a [u8])>
+    ensures value { Finds (λ found. (step_view found.0, lines_of found.1.now)) result (first_step book.now.surface (lines_of text.now)) }
+    ensures plain { IfSome result (λ found. IsPlainStep (length book.now.surface) (step_view found.0)) }
 {
     let (label, rest) = word_after(b"step", text)?;
     let rest = words_only(b"sites 1", rest)?;
     let rest = words_only(b"initial", rest)?;
-    let (before, rest) = state_after(species, rest)?;
+    let (before, rest) = state_after(book, rest)?;
     let rest = words_only(b"final", rest)?;
-    let (after, rest) = state_after(species, rest)?;
+    let (after, rest) = state_after(book, rest)?;
     let ((digits, power), rest) = factor_after(rest)?;
     let (activation, rest) = number_after(b"activ_eng", rest)?;
     let rest = words_only(b"end_step", rest)?;
@@ -239,11 +246,12 @@ fn closed<'a>(steps: Vec<StepText<'a>>, rest: &[u8]) -> Option<Vec<StepText<'a>>
 /// The steps up to the closing word, which ends the text.
 fn steps_from<'a>(
     alloc: Global,
-    species: &[u8],
+    book: &SpeciesBook,
     text: &'a [u8],
 ) -> Result<Option<Vec<StepText<'a>>>, OutOfMemory>
-    ensures value { IfOk result (λ found. Finds (λ steps. map step_view steps.items) found (steps_from 16 species.now (lines_of text.now))) }
+    ensures value { IfOk result (λ found. Finds (λ steps. map step_view steps.items) found (steps_from 16 book.now.surface (lines_of text.now))) }
     ensures few { IfOk result (λ found. IfSome found (λ steps. length steps.items ≤ 16)) }
+    ensures plain { IfOk result (λ found. IfSome found (λ steps. AllByRecursion (IsPlainStep (length book.now.surface)) (map step_view steps.items))) }
 {
     let mut steps = Vec::new(alloc);
     let mut rest = text;
@@ -251,7 +259,7 @@ fn steps_from<'a>(
         if closes(rest) {
             return Ok(closed(steps, rest));
         }
-        let Some((step, after)) = first_step(species, rest) else {
+        let Some((step, after)) = first_step(book, rest) else {
             return Ok(None);
         };
         steps.push(step)?;
@@ -260,20 +268,21 @@ fn steps_from<'a>(
     Ok(closed(steps, rest))
 }
 
-/// The steps of a mechanism file over the species, or `None` where the text is not of the plain form.
+/// The steps of a mechanism file over the surface species of a book, or `None` where the text is not of the plain form.
 #[tactic(auto, unfolding(crate::specs::PlainMechanism::steps_of))]
 pub(crate) fn read_mechanism<'a>(
     alloc: Global,
-    species: &[u8],
+    book: &SpeciesBook,
     text: &'a [u8],
 ) -> Result<Option<Vec<StepText<'a>>>, OutOfMemory>
-    ensures value { IfOk result (λ found. option_map (λ steps. map step_view steps.items) found ≡ steps_of species.now text.now) }
+    ensures value { IfOk result (λ found. option_map (λ steps. map step_view steps.items) found ≡ steps_of book.now.surface text.now) }
     ensures few { IfOk result (λ found. IfSome found (λ steps. (1 ≤ length steps.items) × (length steps.items ≤ 16))) }
+    ensures plain { IfOk result (λ found. IfSome found (λ steps. AllByRecursion (IsPlainStep (length book.now.surface)) (map step_view steps.items))) }
 {
     let Some(rest) = words_only(b"mechanism", text) else {
         return Ok(None);
     };
-    let Some(steps) = steps_from(alloc, species, rest)? else {
+    let Some(steps) = steps_from(alloc, book, rest)? else {
         return Ok(None);
     };
     if 1 <= steps.len() && labels_differ(&steps) {

@@ -1,9 +1,9 @@
-//! Names of species and of steps.
+//! Names of steps.
 
 ghost use Rattle.std.specs.Prelude.{◌≡◌, ◌==◌, ◌||◌};
 ghost use Rattle.std.specs.Char.{is_ascii_alphanumeric};
 ghost use Rattle.std.specs.List.{list_all};
-ghost use Rattle.kmc_run.specs.PlainSimulation.{is_name};
+ghost use Rattle.kmc_run.specs.PlainNames.{is_name};
 
 /// The most bytes of a name.
 const LONGEST_NAME: usize = 32;
@@ -23,7 +23,7 @@ fn has_name_bytes(word: &[u8]) -> bool
 }
 
 /// The word is a name: 1 to 32 letters, digits, `_` or `*`.
-#[tactic(auto, unfolding(crate::specs::PlainSimulation::is_name))]
+#[tactic(auto, unfolding(crate::specs::PlainNames::is_name))]
 pub(super) fn is_name(word: &[u8]) -> bool
     ensures { result ≡ is_name word.now }
 {

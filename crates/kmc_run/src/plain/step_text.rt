@@ -2,14 +2,16 @@
 
 ghost use Rattle.std.specs.Prelude.{◌≡◌, ◌<◌, ◌≤◌, ◌^◌, ◌%◌};
 
+use kmc_base::SpeciesId;
+
 /// A step on one site.
 #[derive(Clone, Copy, Debug)]
 pub(crate) struct StepText<'a> {
     pub(crate) label: &'a [u8],
-    /// Whether the site holds the species before the step.
-    pub(crate) before: bool,
-    /// Whether the site holds the species after the step.
-    pub(crate) after: bool,
+    /// The species on the site before the step, or `None` where it is vacant.
+    pub(crate) before: Option<SpeciesId>,
+    /// The species on the site after the step.
+    pub(crate) after: Option<SpeciesId>,
     /// The pre-exponential factor in 1/s is these digits times a power of ten.
     pub(crate) digits: u64,
     pub(crate) power: u32,

@@ -32,7 +32,7 @@ pub loop-closed-preserved : goal.loop-closed-preserved
 loop-closed-preserved g c =
     let next = c.in-Next.ensures in
     let read = c.loop-closed.invariant.deck in
-    let lt : c.loop-closed.closed.event < c.args.start.deck.max_steps = subst (λ (n : ℕ). c.loop-closed.closed.event < n) (ap (λ d. d.max_steps) read) next.1 in
+    let lt : c.loop-closed.closed.event < c.args.start.deck.plan.max_steps = subst (λ (n : ℕ). c.loop-closed.closed.event < n) (ap (λ d. d.plan.max_steps) read) next.1 in
     let event = ap (λ r. r.event) c.in_ok-closed-in-Next.ensures ∙ ap (λ r. r.event) next.2 in
     record {
       deck = ap (λ r. r.deck) c.in_ok-closed-in-Next.ensures ∙ (ap (λ r. r.deck) next.2 ∙ read);

@@ -17,4 +17,4 @@ invariant-loop-closed g l =
     }
 
 abbrev pub decreases-loop-closed : goal.decreases-loop-closed
-decreases-loop-closed g l = l.closed.deck.max_steps - l.closed.event
+decreases-loop-closed g l = l.closed.deck.plan.max_steps - l.closed.event

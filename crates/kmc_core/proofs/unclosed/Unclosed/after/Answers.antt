@@ -1,5 +1,6 @@
-use Rattle.std.proofs.Common.{◌≡◌, ℕ, Bool, List, ◌+◌, ◌-◌, ap, arith, refl, sym, subst}
+use Rattle.std.proofs.Common.{◌≡◌, ℕ, List, ◌+◌, ◌-◌, ap, arith, refl, sym, subst}
 use Rattle.kmc_core.proofs.Facts.{closed-well, first-well, came_first}
+use Rattle.kmc_core.specs.OneSite.{State}
 use Rattle.kmc_core.specs.Run.{IsClosedAt}
 use Rattle.kmc_core.specs.Trajectory.{Snapshot}
 use Rattle.kmc_core.proofs.unclosed.Unclosed.after.Goals as goal
@@ -18,12 +19,12 @@ index_mut-requires c =
 pub invariant_of-result : goal.invariant_of-result
 invariant_of-result c =
     let before : (c.closed.inside.event + 1) - 1 ≡ c.closed.inside.event = omega arith in
-    let old : Snapshot (List Bool) = record { state = c.closed.inside.sites.items; time = c.closed.inside.time; entries = c.closed.inside.entries.items } in
+    let old : Snapshot (List State) = record { state = c.closed.inside.sites.items; time = c.closed.inside.time; entries = c.closed.inside.entries.items } in
     record {
       old = old;
       closed = subst (λ (n : ℕ). IsClosedAt c.closed.inside.deck n old) (sym before) c.closed.invariant;
       some = omega arith;
-      allowed = omega (arith, ap (λ r. r.event) c.closed.view_is, ap (λ r. r.deck.max_steps) c.closed.view_is, c.requires.goes_on);
+      allowed = omega (arith, ap (λ r. r.event) c.closed.view_is, ap (λ r. r.deck.plan.max_steps) c.closed.view_is, c.requires.goes_on);
       old_entries = refl;
       came_first = came_first c.closed.inside.deck c.closed.inside.event _ c.args.first c.args.closed c.closed.view_is c.closed.invariant c.requires.first;
       fired_sites = rw (c.change_of-site.ensures.site, c.change_of-site.ensures.after) refl;

@@ -5,13 +5,13 @@ use Rattle.kmc_run.proofs.PlainLines.{first_line-unended}
 use Rattle.kmc_run.proofs.PlainReads.{first_line_none, first_line_found}
 use Rattle.kmc_run.proofs.plain.mechanism.state_after.Goals as goal
 
-pub returns-in_err-line : goal.returns-in_err-line
-returns-in_err-line c = rw c.from_residual.ensures (first_line-unended (state_row c.args.species.now) (lines_of c.args.text.now) c.args.text.now (no_state c.args.species.now) c.in_err-line.ensures.unended)
+pub returns-in_err-line-clause-value : goal.returns-in_err-line-clause-value
+returns-in_err-line-clause-value c = rw c.from_residual.ensures (first_line-unended (state_row c.args.book.now.surface) (lines_of c.args.text.now) c.args.text.now (no_state c.args.book.now.surface) c.in_err-line.ensures.unended)
 
-pub returns-in_err-held : goal.returns-in_err-held
-returns-in_err-held c =
-    rw c.from_residual-in_err-held.ensures
-    (first_line_none (state_row c.args.species.now) (lines_of c.args.text.now) (pieces 32 c.in_ok-line.line.now) (lines_of c.in_ok-line.rest.now) c.in_ok-line.ensures.line c.in_err-held.ensures)
+pub returns-in_err-state-clause-value : goal.returns-in_err-state-clause-value
+returns-in_err-state-clause-value c =
+    rw c.from_residual-in_err-state.ensures
+    (first_line_none (state_row c.args.book.now.surface) (lines_of c.args.text.now) (pieces 32 c.in_ok-line.line.now) (lines_of c.in_ok-line.rest.now) c.in_ok-line.ensures.line c.in_err-state.ensures.value)
 
-pub returns : goal.returns
-returns c = first_line_found (state_row c.args.species.now) (lines_of c.args.text.now) (pieces 32 c.in_ok-line.line.now) (lines_of c.in_ok-line.rest.now) _ c.in_ok-line.ensures.line c.in_ok-held.ensures
+pub returns-clause-value : goal.returns-clause-value
+returns-clause-value c = first_line_found (state_row c.args.book.now.surface) (lines_of c.args.text.now) (pieces 32 c.in_ok-line.line.now) (lines_of c.in_ok-line.rest.now) _ c.in_ok-line.ensures.line c.in_ok-state.ensures.value

@@ -1,0 +1,38 @@
+-- When a run stops.
+use Rattle.std.specs.Prelude.{ℕ, ◌+◌, ◌/◌, ◌^◌, ◌==◌, ◌||◌, Bool, Option, None, Some, if◌then◌else◌, nat_le, nat_lt, unwrap_or}
+use Rattle.kmc_core.specs.declared.stop.Stop.{Stop}
+use Rattle.kmc_core.specs.declared.stop.Stop.TheVariants.{Samples, Steps, Still, Horizon}
+use Rattle.sim_deck.specs.declared.part.Plan.{Plan}
+use Rattle.sim_deck.specs.declared.part.Sampling.{Sampling}
+use Rattle.sim_deck.specs.declared.part.Sampling.TheVariants.{Off, Event, Time}
+
+-- how many samples of an output are due at an event and its time
+abbrev pub samples_due : Sampling → ℕ → ℕ → ℕ
+samples_due Off event time = 0
+samples_due (Event period) event time = event / period + 1
+samples_due (Time period) event time = time / period + 1
+
+-- an output has as many samples as it may have
+abbrev pub is_full : Sampling → ℕ → ℕ → Bool
+is_full sampling event time = nat_le 10000000 (samples_due sampling event time)
+
+abbrev pub some_output_is_full : Plan → ℕ → ℕ → Bool
+some_output_is_full plan event time =
+    is_full plan.history event time || is_full plan.procstat event time || is_full plan.specnum event time
+
+-- the end of time: that of the plan, or 10^30 as
+abbrev pub end_of_time : Plan → ℕ
+end_of_time plan = unwrap_or plan.max_time (10 ^ 30)
+
+-- where nothing has a time, and where what comes first comes too late
+abbrev pub stop_before : Plan → Option (ℕ × ℕ) → Option Stop
+stop_before plan None = Some Still
+stop_before plan (Some first) = if nat_lt (end_of_time plan) first.0 then Some Horizon else None
+
+-- Whether and why a run stops after an event, by the event's time and by the (time, code) of what fires next: the first
+-- that holds of the four reasons.
+abbrev pub stop_at : Plan → ℕ → ℕ → Option (ℕ × ℕ) → Option Stop
+stop_at plan event time first =
+    if some_output_is_full plan event time
+    then Some Samples
+    else (if event == plan.max_steps then Some Steps else stop_before plan first)

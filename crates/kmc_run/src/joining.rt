@@ -1,0 +1,265 @@
+//! From the texts of the files to the deck, or its first fault.
+
+ghost use Rattle.std.specs.Prelude.{◌≡◌, ◌≤◌, ◌<◌, ◌-◌, ◌^◌, ◌++◌, IfOk, OnOk, length, map, nat_le, true};
+ghost use Rattle.std.specs.List.{AllByRecursion, list_all};
+ghost use Rattle.deck_shape.specs.Names.{name_at};
+ghost use Rattle.deck_shape.specs.declared.fault.DeckFault.TheVariants.{Fault as Faulty};
+ghost use Rattle.kmc_base.specs.declared.ids.FileId.TheVariants.{Lattice, Mechanism};
+ghost use Rattle.kmc_core.specs.Deck.{IsSound};
+ghost use Rattle.sim_deck.specs.Soundness.{IsSoundPart};
+ghost use Rattle.sim_deck.specs.Values.{values_at};
+ghost use Rattle.species_book.specs.Book.{names_of as names_in};
+ghost use Rattle.kmc_run.specs.PlainDecks.{Reads, book_of, built_in, bytes_in, deck_of, deck_with, file_fault, is_built, is_off, is_on_time, plain_deck, plain_step, values_in, words_of};
+ghost use Rattle.kmc_run.specs.PlainLattice.{sites_of};
+ghost use Rattle.kmc_run.specs.PlainMechanism.{IsPlainStep, steps_of};
+ghost use Rattle.kmc_run.specs.PlainText.{found_if};
+ghost use Rattle.kmc_run.specs.PlainViews.{step_view};
+ghost use Rattle.kmc_run.specs.Samples.{IsWritten};
+ghost use Rattle.kmc_run.specs.Texts.{IsShort};
+
+use crate::plain;
+use crate::plain::StepText;
+use crate::texts::{Text, Texts};
+use deck_shape::kind::{FILE_ABSENT, FILE_TOO_LONG, NOT_BUILT};
+use deck_shape::{DeckFault, Fault, Name, read_shape};
+use fixed_math::lg_decimal;
+use kmc_base::{FileId, Items, OutOfMemory};
+use kmc_core::{PlainDeck, PlainStep};
+use sim_deck::{Sampling, SimPart};
+use species_book::SpeciesBook;
+use std::alloc::Global;
+
+/// The texts of the files beside the simulation file.
+#[derive(Debug, Drop)]
+struct OtherTexts<'a> {
+    lattice: &'a [u8],
+    energetics: &'a [u8],
+    mechanism: &'a [u8],
+}
+
+/// A fault of a file as a whole.
+fn file_fault(file: FileId, kind: u8) -> DeckFault
+    ensures { result ≡ Faulty (file_fault file kind) }
+{
+    DeckFault::Fault(Fault {
+        file,
+        line: 0,
+        kind,
+    })
+}
+
+/// The bytes of a text that is there and is not too long.
+fn bytes_of(file: FileId, text: &Text) -> Result<&[u8], DeckFault>
+    ensures bytes { Reads (λ bytes. bytes.now) result (bytes_in file text.now) }
+    ensures short { IsShort text.now → IfOk result (λ bytes. length bytes.now ≤ 16777216) }
+{
+    match text {
+        Text::Absent => Err(file_fault(file, FILE_ABSENT)),
+        Text::TooLong => Err(file_fault(file, FILE_TOO_LONG)),
+        Text::Bytes(bytes) => Ok(bytes.as_slice()),
+    }
+}
+
+/// The values of a simulation file, or its first fault.
+fn read_values(alloc: Global, text: &[u8]) -> Result<SimPart, DeckFault>
+    requires { length text.now ≤ 16777216 }
+    ensures values { Reads (values_at text.now) result (values_in text.now) }
+    ensures sound { IfOk result (λ part. IsSoundPart (values_at text.now part)) }
+{
+    let shape = read_shape(alloc, FileId::Simulation, text)?;
+    sim_deck::read(alloc, text, &shape)
+}
+
+/// An output is never sampled.
+fn is_off(sampling: Sampling) -> bool
+    ensures { result ≡ is_off sampling }
+{
+    match sampling {
+        Sampling::Off => true,
+        Sampling::Event(_) | Sampling::Time(_) => false,
+    }
+}
+
+/// An output is sampled at times.
+fn is_on_time(sampling: Sampling) -> bool
+    ensures { result ≡ is_on_time sampling }
+{
+    match sampling {
+        Sampling::Time(_) => true,
+        Sampling::Off | Sampling::Event(_) => false,
+    }
+}
+
+/// Each number of dentates is one.
+fn have_one(dentates: &[u8]) -> bool
+    ensures { result ≡ list_all (λ dentates. nat_le dentates 1) dentates.now }
+{
+    dentates.iter().all(|number| *number <= 1)
+}
+
+/// The values of a simulation file are of the form that is built.
+#[tactic(auto, unfolding(crate::specs::PlainDecks::is_built))]
+fn is_built(text: &[u8], part: &SimPart) -> bool
+    ensures { result ≡ is_built (values_at text.now part.now) }
+{
+    is_off(part.plan.history)
+        && is_off(part.plan.procstat)
+        && !is_on_time(part.plan.specnum)
+        && part.plan.max_time.is_none()
+        && have_one(part.dentates.as_slice())
+}
+
+/// Goes on where a file is of a form that is built.
+fn go_on_if(built: bool, file: FileId) -> Result<(), DeckFault>
+    ensures value { Reads (λ _. tt) result (built_in file (found_if built (tt {0}))) }
+    ensures built { OnOk result (built ≡ true) }
+{
+    if built {
+        Ok(())
+    } else {
+        Err(file_fault(file, NOT_BUILT))
+    }
+}
+
+/// The number of sites of a lattice file.
+fn read_sites(text: &[u8]) -> Result<u32, DeckFault>
+    ensures value { Reads (λ sites. sites) result (built_in Lattice (sites_of text.now)) }
+    ensures few { IfOk result (λ sites. sites ≤ 65536) }
+{
+    match plain::read_lattice(text) {
+        Some(sites) => Ok(sites),
+        None => Err(file_fault(FileId::Lattice, NOT_BUILT)),
+    }
+}
+
+/// The steps of a mechanism file over the surface species of a book.
+fn read_steps<'a>(
+    alloc: Global,
+    book: &SpeciesBook,
+    text: &'a [u8],
+) -> Result<Vec<StepText<'a>>, DeckFault>
+    ensures value { Reads (λ steps. map step_view steps.items) result (built_in Mechanism (steps_of book.now.surface text.now)) }
+    ensures few { IfOk result (λ steps. length steps.items ≤ 16) }
+    ensures plain { IfOk result (λ steps. AllByRecursion (IsPlainStep (length book.now.surface)) (map step_view steps.items)) }
+{
+    match plain::read_mechanism(alloc, book, text)? {
+        Some(steps) => Ok(steps),
+        None => Err(file_fault(FileId::Mechanism, NOT_BUILT)),
+    }
+}
+
+/// Names by themselves, outside of the text.
+fn words_of(alloc: Global, text: &[u8], names: &[Name]) -> Result<Vec<Vec<u8>>, OutOfMemory>
+    ensures { IfOk result (λ words. names_in words.items ≡ words_of (map (name_at text.now) names.now)) }
+{
+    let mut words = Vec::new(alloc);
+    for name in names {
+        words.push(Vec::from_slice(alloc, name.span.bytes(text))?)?;
+    }
+    Ok(words)
+}
+
+/// The species of a simulation file.
+fn book_of(alloc: Global, text: &[u8], part: &SimPart) -> Result<SpeciesBook, OutOfMemory>
+    requires { IsSoundPart (values_at text.now part.now) }
+    ensures { IfOk result (λ book. book ≡ book_of (values_at text.now part.now)) }
+{
+    let gas = words_of(alloc, text, part.gas.as_slice())?;
+    let surface = words_of(alloc, text, part.surface.as_slice())?;
+    let dentates = part.dentates.as_slice().to_vec(alloc)?;
+    Ok(SpeciesBook::new(gas, surface, dentates))
+}
+
+/// A step of the deck.
+fn join_step(step: &StepText) -> PlainStep
+    ensures { result ≡ plain_step (step_view step.now) }
+{
+    PlainStep {
+        before: step.before,
+        after: step.after,
+        factor: lg_decimal(step.digits, step.power as i32),
+        activation: (step.activation * 1_000_000_000) as i64,
+    }
+}
+
+/// The steps of the deck.
+fn join_steps(alloc: Global, steps: &[StepText]) -> Result<Vec<PlainStep>, OutOfMemory>
+    ensures { IfOk result (λ joined. joined.items ≡ map plain_step (map step_view steps.now)) }
+{
+    let mut joined = Vec::new(alloc);
+    for step in steps {
+        joined.push(join_step(step))?;
+    }
+    Ok(joined)
+}
+
+/// The deck of what the files say.
+fn join(
+    alloc: Global,
+    text: &[u8],
+    part: &SimPart,
+    sites: u32,
+    book: SpeciesBook,
+    steps: &[StepText],
+) -> Result<PlainDeck, OutOfMemory>
+    requires sound { IsSoundPart (values_at text.now part.now) }
+    requires book { book ≡ book_of (values_at text.now part.now) }
+    requires few_sites { sites ≤ 65536 }
+    requires few_steps { length steps.now ≤ 16 }
+    requires steps { AllByRecursion (IsPlainStep (length book.surface)) (map step_view steps.now) }
+    ensures value { IfOk result (λ deck. deck ≡ plain_deck (values_at text.now part.now) sites (map step_view steps.now)) }
+    ensures sound { IfOk result IsSound }
+{
+    let steps = join_steps(alloc, steps)?;
+    let gas = book.gas_names().len() as u8;
+    Ok(PlainDeck {
+        temperature: part.temperature,
+        sites,
+        plan: part.plan,
+        book,
+        gas,
+        steps: Items::new(steps),
+    })
+}
+
+/// The deck of the values of a simulation file and the three other texts, or the first file that is not built.
+#[tactic(auto, unfolding(crate::specs::PlainDecks::deck_with))]
+fn deck_with(
+    alloc: Global,
+    text: &[u8],
+    part: &SimPart,
+    others: &OtherTexts<'_>,
+) -> Result<PlainDeck, DeckFault>
+    requires { IsSoundPart (values_at text.now part.now) }
+    ensures value { Reads (λ deck. deck) result (deck_with (values_at text.now part.now) others.now.lattice.now others.now.energetics.now others.now.mechanism.now) }
+    ensures sound { IfOk result IsSound }
+    ensures written { IfOk result (λ deck. IsWritten deck.plan) }
+{
+    go_on_if(is_built(text, part), FileId::Simulation)?;
+    let sites = read_sites(others.lattice)?;
+    go_on_if(plain::is_energetics(others.energetics), FileId::Energetics)?;
+    let book = book_of(alloc, text, part)?;
+    let steps = read_steps(alloc, &book, others.mechanism)?;
+    Ok(join(alloc, text, part, sites, book, &steps)?)
+}
+
+/// The deck of the texts, or its first fault.
+#[tactic(auto, unfolding(crate::specs::PlainDecks::deck_of))]
+pub(crate) fn read_deck(alloc: Global, texts: &Texts) -> Result<PlainDeck, DeckFault>
+    requires { IsShort texts.now.simulation }
+    ensures value { Reads (λ deck. deck) result (deck_of texts.now) }
+    ensures sound { IfOk result IsSound }
+    ensures written { IfOk result (λ deck. IsWritten deck.plan) }
+{
+    let simulation = bytes_of(FileId::Simulation, &texts.simulation)?;
+    let lattice = bytes_of(FileId::Lattice, &texts.lattice)?;
+    let energetics = bytes_of(FileId::Energetics, &texts.energetics)?;
+    let mechanism = bytes_of(FileId::Mechanism, &texts.mechanism)?;
+    let part = read_values(alloc, simulation)?;
+    let others = OtherTexts {
+        lattice,
+        energetics,
+        mechanism,
+    };
+    deck_with(alloc, simulation, &part, &others)
+}
