@@ -1,5 +1,5 @@
 -- The plain form of the mechanism file, and that of the energetics file.
-use Rattle.std.specs.Prelude.{ℕ, zero, suc, ◌+◌, ◌/◌, ◌%◌, ◌==◌, ◌&&◌, ◌≤◌, Bool, true, false, not, List, [], ◌∷◌, Option, None, Some, if◌then◌else◌, is_some, length, nat_le, codes}
+use Rattle.std.specs.Prelude.{ℕ, zero, suc, ◌+◌, ◌/◌, ◌%◌, ◌==◌, ◌&&◌, ◌≤◌, Bool, true, not, List, [], ◌∷◌, Option, None, Some, if◌then◌else◌, is_some, length, nat_le, codes}
 use Rattle.std.specs.List.{list_any}
 use Rattle.std.specs.Option.{option_map}
 use Rattle.kmc_base.specs.declared.ids.SpeciesId.{SpeciesId}

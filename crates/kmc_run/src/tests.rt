@@ -13,6 +13,8 @@ const LATTICE: &str = "lattice default_choice\nrectangular_periodic 1 2 2\nend_l
 
 const ENERGETICS: &str = "energetics\nend_energetics\n";
 
+const EXPLICIT: &str = "lattice explicit\n";
+
 /// A step from a vacant site to a vacant site, whose waits are all 1 as.
 const STAYS: &str =
     "mechanism\nstep one\nsites 1\ninitial\n1 * 1\nfinal\n1 * 1\npre_expon 1e300\nactiv_eng 0\nend_step\nend_mechanism\n";
@@ -171,104 +173,82 @@ fn refuses_simulation_files(rt: HostRuntime) -> Result<(), Fail> {
         let simulation = simulation_with(alloc, place, text)?;
         let mut folder = folder(alloc, &simulation, LATTICE, ENERGETICS, FILLS, 0, 0)?;
         let status = run(&rt, alloc, "run", 1, &mut folder)?;
-        assert_eq!(rt; status, refused(FileId::Simulation, line, kind), "{text}");
+        assert_eq!(rt; status, refused(FileId::Simulation, line, kind));
     }
     Ok(())
 }
 
 #[test]
-fn answers_with_the_first_cause(rt: HostRuntime) -> Result<(), Fail> {
-    const EXPLICIT: &str = "lattice explicit\n";
-    let alloc = rt.alloc();
-    let absent = kind::FILE_ABSENT;
-    let not_built = kind::NOT_BUILT;
-    let cases = [
+fn refuses_with_the_first_fault(rt: HostRuntime) -> Result<(), Fail> {
+    const CASES: [(&str, &str, &str, &str, FileId, u8); 5] = [
         (
             SAMPLED,
             EXPLICIT,
             "",
             FILLS,
-            0,
-            0,
-            refused(FileId::Energetics, 0, absent),
+            FileId::Energetics,
+            kind::FILE_ABSENT,
         ),
         (
             "finish\n",
             LATTICE,
             ENERGETICS,
             "",
-            0,
-            0,
-            refused(FileId::Mechanism, 0, absent),
+            FileId::Mechanism,
+            kind::FILE_ABSENT,
         ),
         (
             SAMPLED,
             EXPLICIT,
             "more\n",
             FILLS,
-            0,
-            0,
-            refused(FileId::Lattice, 0, not_built),
+            FileId::Lattice,
+            kind::NOT_BUILT,
         ),
         (
             SAMPLED,
             LATTICE,
             "more\n",
             "more\n",
-            0,
-            0,
-            refused(FileId::Energetics, 0, not_built),
+            FileId::Energetics,
+            kind::NOT_BUILT,
         ),
         (
             SAMPLED,
             LATTICE,
             ENERGETICS,
             "more\n",
-            0,
-            0,
-            refused(FileId::Mechanism, 0, not_built),
-        ),
-        (
-            "",
-            EXPLICIT,
-            "",
-            FILLS,
-            4,
-            0,
-            Status::ReadFault(FileId::Mechanism),
-        ),
-        (
-            SAMPLED,
-            LATTICE,
-            ENERGETICS,
-            FILLS,
-            2,
-            0,
-            Status::ReadFault(FileId::Lattice),
-        ),
-        (
-            SAMPLED,
-            LATTICE,
-            ENERGETICS,
-            FILLS,
-            0,
-            1,
-            Status::WriteFault(OutId::Specnum),
+            FileId::Mechanism,
+            kind::NOT_BUILT,
         ),
     ];
-    for (simulation, lattice, energetics, mechanism, load, append, expected) in cases {
-        let mut folder = folder(
-            alloc, simulation, lattice, energetics, mechanism, load, append,
-        )?;
-        assert_eq!(rt; run(&rt, alloc, "run", 1, &mut folder)?, expected);
-        assert_eq!(rt; folder.output(OutId::Specnum).is_some(), append == 1);
-    }
-    for (word, times) in [("run", 2), ("walk", 1), ("run", 0)] {
-        let mut folder = folder(alloc, SAMPLED, LATTICE, ENERGETICS, FILLS, 0, 0)?;
+    let alloc = rt.alloc();
+    for (simulation, lattice, energetics, mechanism, file, kind) in CASES {
+        let mut folder = folder(alloc, simulation, lattice, energetics, mechanism, 0, 0)?;
         assert_eq!(rt;
-            run(&rt, alloc, word, times, &mut folder)?,
-            Status::BadWords
+            run(&rt, alloc, "run", 1, &mut folder)?,
+            refused(file, 0, kind)
         );
+        assert!(rt; folder.output(OutId::Specnum).is_none());
+    }
+    Ok(())
+}
+
+#[test]
+fn answers_with_its_cause(rt: HostRuntime) -> Result<(), Fail> {
+    const CASES: [(&str, &str, u8, u64, u64, Status); 6] = [
+        ("", "run", 1, 4, 0, Status::ReadFault(FileId::Mechanism)),
+        (SAMPLED, "run", 1, 2, 0, Status::ReadFault(FileId::Lattice)),
+        (SAMPLED, "run", 1, 0, 1, Status::WriteFault(OutId::Specnum)),
+        (SAMPLED, "run", 2, 0, 0, Status::BadWords),
+        (SAMPLED, "walk", 1, 0, 0, Status::BadWords),
+        (SAMPLED, "run", 0, 0, 0, Status::BadWords),
+    ];
+    let alloc = rt.alloc();
+    for (simulation, word, times, load, append, expected) in CASES {
+        let mut folder = folder(alloc, simulation, LATTICE, ENERGETICS, FILLS, load, append)?;
+        assert_eq!(rt; run(&rt, alloc, word, times, &mut folder)?, expected);
+        assert_eq!(rt; folder.output(OutId::Specnum).is_some(), append == 1);
     }
     Ok(())
 }

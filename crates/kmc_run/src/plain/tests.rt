@@ -31,7 +31,7 @@ const LATTICE: [&str; 3] = [
 
 #[test]
 fn lattice_and_energetics_files(rt: HostRuntime) -> Result<(), Fail> {
-    let cases = [
+    const CASES: [(usize, &str, Option<u32>); 12] = [
         (3, "", Some(6)),
         (1, "rectangular_periodic 1 256 256", Some(65_536)),
         (1, "rectangular_periodic 1 02 2", Some(4)),
@@ -45,9 +45,9 @@ fn lattice_and_energetics_files(rt: HostRuntime) -> Result<(), Fail> {
         (0, "lattice explicit", None),
         (2, "end_lattice\n\n", None),
     ];
-    for (place, line, sites) in cases {
+    for (place, line, sites) in CASES {
         let text = text_with(rt.alloc(), &LATTICE, place, line)?;
-        assert_eq!(rt; read_lattice(&text), sites, "at {line}");
+        assert_eq!(rt; read_lattice(&text), sites);
     }
     assert!(rt; is_energetics(b"energetics\nend_energetics\n"));
     assert!(rt; !is_energetics(b"energetics\nend_energetics"));
@@ -78,46 +78,85 @@ const MECHANISM: [&str; 11] = [
     "end_mechanism",
 ];
 
+const VACANT: Option<SpeciesId> = None;
+
+const FIRST: Option<SpeciesId> = Some(SpeciesId(0));
+
+const SECOND: Option<SpeciesId> = Some(SpeciesId(1));
+
+/// Lines in the place of others, and the one step that is read then: its states, the digits and the power of ten of its
+/// factor, and its activation energy.
+type Taken = (
+    usize,
+    &'static str,
+    Option<SpeciesId>,
+    Option<SpeciesId>,
+    u64,
+    u32,
+    u64,
+);
+
+const TAKEN: [Taken; 8] = [
+    (11, "", VACANT, FIRST, 1, 300, 0),
+    (1, "step *", VACANT, FIRST, 1, 300, 0),
+    (4, "1 B* 1", SECOND, FIRST, 1, 300, 0),
+    (6, "1 * 1", VACANT, VACANT, 1, 300, 0),
+    (7, "pre_expon 120", VACANT, FIRST, 12, 1, 0),
+    (7, "pre_expon 0e500", VACANT, FIRST, 0, 0, 0),
+    (7, "pre_expon 10e399", VACANT, FIRST, 1, 400, 0),
+    (8, "activ_eng 1000", VACANT, FIRST, 1, 300, 1000),
+];
+
+const REFUSED: [(usize, &str); 13] = [
+    (1, "step abcdefghijklmnopqrstuvwxyz0123456"),
+    (1, "step"),
+    (4, "1 G 1"),
+    (4, "2 * 1"),
+    (4, "1 * 2"),
+    (4, "1  * 1"),
+    (4, "1 * 1 1"),
+    (7, "pre_expon 10e400"),
+    (7, "pre_expon 1e0001"),
+    (7, "pre_expon 1e1e1"),
+    (7, "pre_expon 1.0"),
+    (8, "activ_eng 1001"),
+    (10, "end_mechanism\nmore"),
+];
+
+/// A mechanism is one step, as this line has it.
+fn is_taken(steps: &[StepText], taken: Taken) -> bool {
+    let (_, _, before, after, digits, power, activation) = taken;
+    match steps {
+        [step] => {
+            step.before == before
+                && step.after == after
+                && step.digits == digits
+                && step.power == power
+                && step.activation == activation
+        }
+        _ => false,
+    }
+}
+
 #[test]
 fn mechanism_files(rt: HostRuntime) -> Result<(), Fail> {
-    let alloc = rt.alloc();
-    let book = book(alloc)?;
-    let vacant = None;
-    let first = Some(SpeciesId(0));
-    let second = Some(SpeciesId(1));
-    let cases = [
-        (11, "", Some((vacant, first, 1, 300, 0))),
-        (1, "step *", Some((vacant, first, 1, 300, 0))),
-        (4, "1 A* 1", Some((first, first, 1, 300, 0))),
-        (4, "1 B* 1", Some((second, first, 1, 300, 0))),
-        (6, "1 * 1", Some((vacant, vacant, 1, 300, 0))),
-        (7, "pre_expon 120", Some((vacant, first, 12, 1, 0))),
-        (7, "pre_expon 0e500", Some((vacant, first, 0, 0, 0))),
-        (7, "pre_expon 10e399", Some((vacant, first, 1, 400, 0))),
-        (8, "activ_eng 1000", Some((vacant, first, 1, 300, 1000))),
-        (1, "step abcdefghijklmnopqrstuvwxyz0123456", None),
-        (1, "step", None),
-        (4, "1 G 1", None),
-        (4, "2 * 1", None),
-        (4, "1 * 2", None),
-        (4, "1  * 1", None),
-        (4, "1 * 1 1", None),
-        (7, "pre_expon 10e400", None),
-        (7, "pre_expon 1e0001", None),
-        (7, "pre_expon 1e1e1", None),
-        (7, "pre_expon 1.0", None),
-        (8, "activ_eng 1001", None),
-        (10, "end_mechanism\nmore", None),
-    ];
-    for (place, line, expected) in cases {
-        let text = text_with(alloc, &MECHANISM, place, line)?;
-        let found = match read_mechanism(alloc, &book, &text)? {
-            Some(steps) => steps
-                .first()
-                .map(|s| (s.before, s.after, s.digits, s.power, s.activation)),
-            None => None,
+    let book = book(rt.alloc())?;
+    for taken in TAKEN {
+        let text = text_with(rt.alloc(), &MECHANISM, taken.0, taken.1)?;
+        let Some(steps) = read_mechanism(rt.alloc(), &book, &text)? else {
+            return Err("a plain mechanism file".into());
         };
-        assert_eq!(rt; found, expected, "at {line}");
+        assert!(rt; is_taken(&steps, taken));
+    }
+    Ok(())
+}
+
+#[test]
+fn other_mechanism_files(rt: HostRuntime) -> Result<(), Fail> {
+    let book = book(rt.alloc())?;
+    for (place, line) in REFUSED {
+        let text = text_with(rt.alloc(), &MECHANISM, place, line)?;
+        assert!(rt; read_mechanism(rt.alloc(), &book, &text)?.is_none());
     }
     Ok(())
 }
@@ -138,18 +177,19 @@ fn steps_of(alloc: Global, labels: &[u8]) -> Result<Vec<u8>, AllocError> {
 
 #[test]
 fn numbers_of_steps(rt: HostRuntime) -> Result<(), Fail> {
-    let alloc = rt.alloc();
-    let book = book(alloc)?;
-    let cases = [
-        ("abcdefghijklmnop", Some(16)),
-        ("abcdefghijklmnopq", None),
-        ("", None),
-        ("aba", None),
+    const CASES: [(&str, usize); 4] = [
+        ("abcdefghijklmnop", 16),
+        ("abcdefghijklmnopq", 0),
+        ("", 0),
+        ("aba", 0),
     ];
-    for (labels, count) in cases {
-        let text = steps_of(alloc, labels.as_bytes())?;
-        let found = read_mechanism(alloc, &book, &text)?;
-        assert_eq!(rt; found.map(|steps| steps.len()), count, "at {labels}");
+    let book = book(rt.alloc())?;
+    for (labels, count) in CASES {
+        let text = steps_of(rt.alloc(), labels.as_bytes())?;
+        match read_mechanism(rt.alloc(), &book, &text)? {
+            Some(steps) => assert_eq!(rt; steps.len(), count),
+            None => assert_eq!(rt; 0, count),
+        }
     }
     Ok(())
 }
