@@ -5,4 +5,5 @@ mod LineCounts
 mod Maps
 mod Powers
 mod Rows
+pub mod ShapeFacts
 mod Words

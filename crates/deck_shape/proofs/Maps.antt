@@ -1,6 +1,6 @@
 -- searches of the values of a list
-use Rattle.std.proofs.Common.{◌≡◌, ◌||◌, ap, Bor, Option, None, Some, is_some, Bool, List, [], ◌∷◌, map, refl, ⊎_elim}
-use Rattle.std.specs.List.{find, list_any}
+use Rattle.std.proofs.Common.{◌≡◌, true, false, cond, IfSome, ◌||◌, ap, Bor, Option, None, Some, is_some, Bool, List, [], ◌∷◌, map, refl, ⊎_elim}
+use Rattle.std.specs.List.{AllByRecursion, find, list_any}
 use Rattle.std.specs.Option.{option_copied, option_map}
 use Rattle.std.proofs.lemmas.Bool.{cases_Bool}
 
@@ -26,3 +26,8 @@ is_some-copied (Some x) = refl
 pub list_any-map : {X Y : Type 0} (p : X → Bool) (h : Y → X) (ys : List Y) → list_any p (map h ys) ≡ list_any (λ y. p (h y)) ys
 list_any-map p h [] = refl
 list_any-map p h (y ∷ ys) = ap (λ b. p (h y) || b) (list_any-map p h ys)
+
+-- what holds of each member holds of the one that is found
+pub IfSome-find : {X : Type 0} (P : X → Type 0) (p : X → Bool) (xs : List X) → AllByRecursion P xs → IfSome (find p xs) P
+IfSome-find P p [] all = tt
+IfSome-find P p (x ∷ xs) all = elim (p x) as (λ b. IfSome (cond b (Some x) (find p xs)) P) [ true ↦ all.0 | false ↦ IfSome-find P p xs all.1 ]

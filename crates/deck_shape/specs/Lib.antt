@@ -9,3 +9,4 @@ pub mod Reading
 pub mod LineFaults
 pub mod Shapes
 pub mod Views
+pub mod WholeBlocks

@@ -1,0 +1,32 @@
+-- What is true of the block of a lattice file that is read without faults of form.
+use Rattle.std.specs.Prelude.{◌≡◌, true, false, length, Some}
+use Rattle.std.specs.List.{AllByRecursion, list_any}
+use Rattle.deck_shape.specs.Blocks.{BlockLines, ItemLines}
+use Rattle.deck_shape.specs.LineFaults.{is_missing}
+use Rattle.deck_shape.specs.LineWords.{arguments_of, head_of}
+use Rattle.deck_shape.specs.Tables.{allows, rule_for, rules_of}
+use Rattle.deck_shape.specs.declared.table.BlockKind.{BlockKind}
+use Rattle.deck_shape.specs.declared.table.BlockKind.TheVariants.{Simulation, LatticeFile, DefaultChoice, PeriodicCell, Explicit, NeighboringStructure as NeighboringRows, LatticeStructure as LatticeRows}
+use Rattle.deck_shape.specs.declared.table.Rule.{Rule}
+
+-- the block of a lattice file
+abbrev pub IsLatticeKind : BlockKind → Type 0
+IsLatticeKind DefaultChoice = Unit {0}
+IsLatticeKind PeriodicCell = Unit {0}
+IsLatticeKind Explicit = Unit {0}
+IsLatticeKind Simulation = ⊥
+IsLatticeKind LatticeFile = ⊥
+IsLatticeKind NeighboringRows = ⊥
+IsLatticeKind LatticeRows = ⊥
+
+-- a word that the block has, with as many arguments as it takes
+pub record IsKnown (kind : BlockKind) (item : ItemLines) : Type 0 where
+  pub rule : Rule
+  pub has_rule : rule_for kind (head_of item.line) ≡ Some rule
+  pub is_allowed : allows rule.arguments (length (arguments_of item.line)) ≡ true
+
+-- a block without faults of form
+pub record IsWhole (block : BlockLines) : Type 0 where
+  pub kind : IsLatticeKind block.kind
+  pub known : AllByRecursion (IsKnown block.kind) block.items
+  pub none_missing : list_any (is_missing block.items) (rules_of block.kind) ≡ false
