@@ -2,16 +2,18 @@
 //!
 //! `expand_periodic` repeats a cell of sites around two directions and joins sites of each cell to sites of a displaced
 //! one. `expand_default` does so for the rectangular and the hexagonal lattice. `expand_explicit` takes the neighbours of
-//! each site. Each answers the lattice, or the first fault of its neighbours as `lattice_core` names it. The crate stands
-//! on `lattice_core` and `kmc_base`.
+//! each site. Each answers the lattice, or the first fault of its neighbours as `lattice_core` names it. `is_crowded` tells
+//! whether a repeated cell gives a site too many neighbours. The crate stands on `lattice_core` and `kmc_base`.
 #![tactic(auto)]
 
 mod cell;
+mod crowding;
 mod expand;
 mod neighbours;
 mod repeats;
 
 pub use cell::{Join, Toward};
+pub use crowding::is_crowded;
 pub use expand::{DefaultLattice, expand_default, expand_explicit, expand_periodic};
 
 #[cfg(test)]

@@ -1,4 +1,6 @@
-use crate::{DefaultLattice, Join, Toward, expand_default, expand_explicit, expand_periodic};
+use crate::{
+    DefaultLattice, Join, Toward, expand_default, expand_explicit, expand_periodic, is_crowded,
+};
 use kmc_base::SiteId;
 use lattice_core::{Graph, GraphFault};
 use std::alloc::Global;
@@ -122,5 +124,23 @@ fn lists_that_are_given(rt: HostRuntime) -> Result<(), Fail> {
     let lists = vec![in alloc; first, Vec::new(alloc)]?;
     let one_sided = expand_explicit(vec![in alloc; 1, 1]?, lists);
     assert_eq!(rt; one_sided.err(), Some(GraphFault::OneSided(0, 1)));
+    Ok(())
+}
+
+#[test]
+fn crowded_cells(rt: HostRuntime) -> Result<(), Fail> {
+    let alloc = rt.alloc();
+    for (last, crowded) in [(32, false), (33, true)] {
+        let mut joins = Vec::new(alloc);
+        for to in 1..=last {
+            joins.push(Join {
+                from: 0,
+                to,
+                toward: Toward::Own,
+            })?;
+        }
+        assert!(rt; joins.iter().all(|join| join.from < 40 && join.to < 40));
+        assert_eq!(rt; is_crowded(alloc, 1, 1, 40, &joins)?, crowded, "{last}");
+    }
     Ok(())
 }
