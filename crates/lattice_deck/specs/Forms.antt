@@ -1,0 +1,15 @@
+-- What is true of the forms of the table.
+use Rattle.deck_shape.specs.Numbers.{IsNumber}
+use Rattle.lattice_deck.specs.declared.forms.Form.{Form}
+use Rattle.lattice_deck.specs.declared.forms.Form.TheVariants.{Number, Repeats, TypeNames, Types, Coordinates, Joins, SiteRows, Default}
+
+-- the bounds of a number can be compared with
+abbrev pub IsForm : Form → Type 0
+IsForm (Number number) = IsNumber number
+IsForm Repeats = Unit {0}
+IsForm TypeNames = Unit {0}
+IsForm Types = Unit {0}
+IsForm (Coordinates count) = Unit {0}
+IsForm Joins = Unit {0}
+IsForm SiteRows = Unit {0}
+IsForm (Default kind) = Unit {0}

@@ -1,0 +1,14 @@
+pub mod Coordinates
+pub mod Faultless
+pub mod Faults
+pub mod Forms
+pub mod Items
+pub mod Joins
+pub mod Parts
+pub mod Placing
+pub mod ReadRows
+pub mod RowLookup
+pub mod SiteRows
+pub mod Sizes
+pub mod Types
+pub mod Views

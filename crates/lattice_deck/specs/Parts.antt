@@ -1,0 +1,123 @@
+-- The values of a lattice file.
+use Rattle.std.specs.Prelude.{ℕ, ◌+◌, ◌-◌, List, [], ◌∷◌, map, Option, None, Some, Result, Ok, Err, codes, unwrap_or}
+use Rattle.std.specs.List.{find, range_with_len}
+use Rattle.std.specs.Option.{option_map_or}
+use Rattle.dec_text.specs.Lines.{WordLine}
+use Rattle.deck_shape.specs.Blocks.{BlockLines, ItemLines, has_keyword}
+use Rattle.deck_shape.specs.LineWords.{arguments_of, first_of, after_first}
+use Rattle.deck_shape.specs.Names.{NameWord, name_at}
+use Rattle.deck_shape.specs.declared.keyword.Keyword.{Keyword}
+use Rattle.deck_shape.specs.declared.keyword.Keyword.TheVariants.{HexagonalPeriodic, LatticeStructure, NeighboringStructure, RectangularPeriodic, SiteTypeNames, SiteTypes}
+use Rattle.deck_shape.specs.declared.table.BlockKind.{BlockKind}
+use Rattle.deck_shape.specs.declared.table.BlockKind.TheVariants.{Simulation, LatticeFile, DefaultChoice, PeriodicCell, Explicit, NeighboringStructure as NeighboringRows, LatticeStructure as LatticeRows}
+use Rattle.lattice_cell.specs.Default.{default_lattice}
+use Rattle.lattice_cell.specs.Periodic.{periodic_lattice}
+use Rattle.lattice_cell.specs.declared.expand.DefaultLattice.{DefaultLattice}
+use Rattle.lattice_cell.specs.declared.expand.DefaultLattice.TheVariants.{Hexagonal, Rectangular}
+use Rattle.lattice_core.specs.Fault.{lattice_from}
+use Rattle.lattice_core.specs.Lattice.{Lattice}
+use Rattle.lattice_deck.specs.Faults.{first_fault}
+use Rattle.lattice_deck.specs.Items.{words_behind}
+use Rattle.lattice_deck.specs.Joins.{joins_of}
+use Rattle.lattice_deck.specs.SiteRows.{SiteRow, row_for, rows_of}
+use Rattle.lattice_deck.specs.Sizes.{repeats_of, sizes_in}
+use Rattle.lattice_deck.specs.Types.{type_of}
+use Rattle.lattice_deck.specs.declared.part.LatticePart.{LatticePart}
+use Rattle.lattice_deck.specs.declared.sizes.Sizes.{Sizes}
+
+-- the lattice, the names of the types of its sites, and the type words of the file in order
+pub record LatticeValues : Type 0 where
+  pub lattice : Lattice
+  pub type_names : List (List ℕ)
+  pub type_words : List NameWord
+
+-- what a part of a deck stands for in its text
+abbrev pub values_at : List ℕ → LatticePart → LatticeValues
+values_at text part = record {
+  lattice = part.graph;
+  type_names = map (λ name. name.items) part.type_names;
+  type_words = map (name_at text) part.type_words;
+}
+
+-- the words of a list, none where it is absent
+abbrev pub list_in : Keyword → List ItemLines → List (List ℕ)
+list_in keyword items = unwrap_or (words_behind keyword items) []
+
+-- the rows of a word, none where it is absent
+abbrev pub rows_in : Keyword → List ItemLines → List WordLine
+rows_in keyword items = option_map_or (λ item. item.rows) (find (has_keyword keyword) items) []
+
+-- the repeats of a default lattice, behind its constant
+abbrev pub behind_constant : List (List ℕ) → List (List ℕ)
+behind_constant [] = []
+behind_constant (constant ∷ repeats) = repeats
+
+abbrev pub default_of : DefaultLattice → List (List ℕ) → Lattice
+default_of kind words = option_map_or (λ r. default_lattice kind r.0 r.1) (repeats_of (behind_constant words)) (record { types = []; neighbours = [] })
+
+-- the default lattice of a file, whose one type has the name StTp1
+abbrev pub default_values : List ItemLines → LatticeValues
+default_values items = record {
+  lattice = option_map_or (default_of Rectangular) (words_behind RectangularPeriodic items) (default_of Hexagonal (list_in HexagonalPeriodic items));
+  type_names = codes "StTp1" ∷ [];
+  type_words = [];
+}
+
+-- the names on a line
+abbrev pub names_on : ItemLines → List NameWord
+names_on item = map (λ word. record { word = word; line = item.line.number }) (arguments_of item.line)
+
+-- the lattice of a periodic cell, by its numbers, the names of types, the type words and the rows that join sites
+abbrev pub cell_of : Sizes → List (List ℕ) → List (List ℕ) → List WordLine → Lattice
+cell_of sizes names types rows =
+    let repeats = unwrap_or sizes.repeats (0, 0) in
+    periodic_lattice repeats.0 repeats.1 (map (type_of names) types) (unwrap_or (joins_of (unwrap_or sizes.sites 0) rows) [])
+
+abbrev pub cell_values : List ItemLines → LatticeValues
+cell_values items = record {
+  lattice = cell_of (sizes_in items) (list_in SiteTypeNames items) (list_in SiteTypes items) (rows_in NeighboringStructure items);
+  type_names = list_in SiteTypeNames items;
+  type_words = option_map_or names_on (find (has_keyword SiteTypes) items) [];
+}
+
+-- the type word of a row of a site, its fourth word
+abbrev pub type_on : WordLine → NameWord
+type_on row = record { word = first_of (after_first (after_first (after_first row.words))); line = row.number }
+
+-- the type and the neighbours, from 0, of each site by its row
+abbrev pub type_at : List (List ℕ) → List SiteRow → ℕ → ℕ
+type_at names rows site = option_map_or (λ row. type_of names row.type_word) (row_for (site + 1) rows) 0
+
+abbrev pub neighbours_at : List SiteRow → ℕ → List ℕ
+neighbours_at rows site = option_map_or (λ row. map (λ n. n - 1) row.neighbours) (row_for (site + 1) rows) []
+
+-- the lattice of a list of sites
+abbrev pub listed_lattice : ℕ → List (List ℕ) → List SiteRow → Lattice
+listed_lattice sites names rows =
+    lattice_from (map (type_at names rows) (range_with_len 0 sites)) (map (neighbours_at rows) (range_with_len 0 sites))
+
+abbrev pub explicit_values : List ItemLines → LatticeValues
+explicit_values items = record {
+  lattice = listed_lattice (unwrap_or (sizes_in items).sites 0) (list_in SiteTypeNames items) (rows_of (rows_in LatticeStructure items));
+  type_names = list_in SiteTypeNames items;
+  type_words = map type_on (rows_in LatticeStructure items);
+}
+
+-- the values of a block, by its kind
+abbrev pub values_of : BlockKind → List ItemLines → LatticeValues
+values_of DefaultChoice items = default_values items
+values_of PeriodicCell items = cell_values items
+values_of Explicit items = explicit_values items
+values_of Simulation items = default_values items
+values_of LatticeFile items = default_values items
+values_of NeighboringRows items = default_values items
+values_of LatticeRows items = default_values items
+
+-- the values, unless there is a fault
+abbrev pub values_unless : LatticeValues → Option (ℕ × ℕ) → Result LatticeValues (ℕ × ℕ)
+values_unless values None = Ok values
+values_unless values (Some fault) = Err fault
+
+-- the values of the block of a lattice file, or its first fault
+abbrev pub part_of : BlockLines → Result LatticeValues (ℕ × ℕ)
+part_of block = values_unless (values_of block.kind block.items) (first_fault block)

@@ -1,0 +1,109 @@
+//! What the words of the lattice file take as values, as data: the definitions and the reader go by this table.
+
+use deck_shape::{Keyword, Number};
+use lattice_cell::DefaultLattice;
+
+/// How many rows a word has.
+#[derive(Clone, Copy, Debug, PartialEq, Eq)]
+pub enum RowCount {
+    /// So many.
+    Exactly(u64),
+    /// One for each site that is stated.
+    OnePerSite,
+}
+
+/// What a word takes on its line and in its rows.
+#[derive(Clone, Copy, Debug, PartialEq, Eq)]
+pub enum Form {
+    /// A whole number.
+    Number(Number),
+    /// The repeats of a cell in its two directions.
+    Repeats,
+    /// A name for each type.
+    TypeNames,
+    /// A type for each site of a cell.
+    Types,
+    /// Rows of two decimals.
+    Coordinates(RowCount),
+    /// Rows that join sites of a cell.
+    Joins,
+    /// A row for each site.
+    SiteRows,
+    /// A lattice that has a name: its constant, which is used for nothing, and its repeats.
+    Default(DefaultLattice),
+}
+
+/// A word and its form.
+#[derive(Clone, Copy, Debug)]
+pub struct WordForm {
+    pub keyword: Keyword,
+    pub form: Form,
+}
+
+/// A number of sites, in a cell or of a lattice.
+pub const SITE_COUNT: Number = Number::Whole(1, 65_536);
+
+/// A number of types of sites.
+pub const TYPE_COUNT: Number = Number::Whole(1, 1000);
+
+/// A number of repeats.
+pub const REPEAT: Number = Number::Whole(1, 18_446_744_073_709_551_615);
+
+/// A whole number that is used for nothing.
+pub const ANY_WHOLE: Number = Number::Whole(0, 18_446_744_073_709_551_615);
+
+/// The forms of the words that have a value.
+pub const FORMS: [WordForm; 13] = [
+    WordForm {
+        keyword: Keyword::RectangularPeriodic,
+        form: Form::Default(DefaultLattice::Rectangular),
+    },
+    WordForm {
+        keyword: Keyword::HexagonalPeriodic,
+        form: Form::Default(DefaultLattice::Hexagonal),
+    },
+    WordForm {
+        keyword: Keyword::CellVectors,
+        form: Form::Coordinates(RowCount::Exactly(2)),
+    },
+    WordForm {
+        keyword: Keyword::RepeatCell,
+        form: Form::Repeats,
+    },
+    WordForm {
+        keyword: Keyword::NCellSites,
+        form: Form::Number(SITE_COUNT),
+    },
+    WordForm {
+        keyword: Keyword::NSiteTypes,
+        form: Form::Number(TYPE_COUNT),
+    },
+    WordForm {
+        keyword: Keyword::SiteTypeNames,
+        form: Form::TypeNames,
+    },
+    WordForm {
+        keyword: Keyword::SiteTypes,
+        form: Form::Types,
+    },
+    WordForm {
+        keyword: Keyword::SiteCoordinates,
+        form: Form::Coordinates(RowCount::OnePerSite),
+    },
+    WordForm {
+        keyword: Keyword::NeighboringStructure,
+        form: Form::Joins,
+    },
+    WordForm {
+        keyword: Keyword::NSites,
+        form: Form::Number(SITE_COUNT),
+    },
+    WordForm {
+        keyword: Keyword::MaxCoord,
+        form: Form::Number(ANY_WHOLE),
+    },
+    WordForm {
+        keyword: Keyword::LatticeStructure,
+        form: Form::SiteRows,
+    },
+];

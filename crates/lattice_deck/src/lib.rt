@@ -1,0 +1,28 @@
+//! The values of the lattice file: its lattice, the names of types, and the type words.
+//!
+//! `read` gives exactly the values of a file of the right shape, or exactly its first fault of a value, and `unknown_type`
+//! exactly the first type word that is no type. It stands on deck_shape and lattice_cell.
+#![tactic(auto)]
+
+mod coordinates;
+mod faults;
+mod forms;
+mod joins;
+mod listed;
+mod part;
+mod reader;
+mod row_index;
+mod site_row;
+mod site_rows;
+mod sizes;
+mod types;
+mod unknown;
+mod values;
+mod words;
+
+pub use part::LatticePart;
+pub use reader::read;
+pub use unknown::unknown_type;
+
+#[cfg(test)]
+mod tests;

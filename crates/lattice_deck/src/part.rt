@@ -1,0 +1,13 @@
+use deck_shape::Name;
+use kmc_base::Items;
+use lattice_core::Graph;
+
+/// The values of a lattice file.
+#[derive(Debug, Drop)]
+pub struct LatticePart {
+    pub graph: Graph,
+    /// The names of the types of sites, in order; the first is that of type 1.
+    pub type_names: Items<Vec<u8>>,
+    /// The type words of the file, in order. A site whose type word is no type has type 0 in the graph.
+    pub type_words: Items<Name>,
+}

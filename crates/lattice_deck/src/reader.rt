@@ -1,0 +1,47 @@
+ghost use Rattle.std.specs.Prelude.{◌≡◌, ◌∷◌, [], IfErr, IfOk, Ok, map};
+ghost use Rattle.deck_shape.specs.Blocks.{BlockLines, block_at};
+ghost use Rattle.deck_shape.specs.Shapes.{IsFaultOf, IsShapeOf};
+ghost use Rattle.deck_shape.specs.WholeBlocks.{IsWhole};
+ghost use Rattle.kmc_base.specs.declared.ids.FileId.TheVariants.{Lattice};
+ghost use Rattle.lattice_deck.specs.Parts.{part_of, values_at};
+
+use crate::faults::first_fault;
+use crate::part::LatticePart;
+use crate::values::values_of;
+use deck_shape::{Block, DeckFault, Fault, Shape};
+use kmc_base::FileId;
+use std::alloc::Global;
+
+/// The values of a block without faults of form, or its first fault.
+fn read_block(alloc: Global, bytes: &[u8], block: &Block) -> Result<LatticePart, DeckFault>
+    requires { IsWhole (block_at bytes.now block.now) }
+    ensures values { IfOk result (λ part. part_of (block_at bytes.now block.now) ≡ Ok (values_at bytes.now part)) }
+    ensures fault { IfErr result (IsFaultOf Lattice (part_of (block_at bytes.now block.now))) }
+{
+    if let Some((line, kind)) = first_fault(alloc, block, bytes)? {
+        return Err(DeckFault::Fault(Fault {
+            file: FileId::Lattice,
+            line,
+            kind,
+        }));
+    }
+    Ok(values_of(alloc, block, bytes)?)
+}
+
+/// The values of a lattice file, or its first fault of a value.
+///
+/// The faults are those of `kind` from `NOT_NUMBER` to `TOO_MANY_SITES`; of the kinds that hold at the first faulty line
+/// the least is the fault. A line that goes by a number of another line has no fault by it where that number has one. A
+/// type word that is no type is no fault here: its site has type 0 in the graph.
+pub fn read(alloc: Global, bytes: &[u8], shape: &Shape) -> Result<LatticePart, DeckFault>
+    requires { IsShapeOf Lattice bytes.now shape.now }
+    ensures values { (block : BlockLines) → map (block_at bytes.now) shape.now.blocks ≡ block ∷ []
+        → IfOk result (λ part. part_of block ≡ Ok (values_at bytes.now part)) }
+    ensures fault { (block : BlockLines) → map (block_at bytes.now) shape.now.blocks ≡ block ∷ []
+        → IfErr result (IsFaultOf Lattice (part_of block)) }
+{
+    match shape.blocks.as_slice() {
+        [block] => read_block(alloc, bytes, block),
+        _ => unreachable!(),
+    }
+}

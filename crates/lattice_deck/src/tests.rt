@@ -1,0 +1,132 @@
+use crate::{LatticePart, read, unknown_type};
+use deck_shape::{DeckFault, Fault, read_shape};
+use kmc_base::{FileId, SiteId};
+use std::alloc::Global;
+use std::test::Fail;
+
+/// The values of a short text, or its first fault of form or of a value.
+fn read_text(alloc: Global, text: &[u8]) -> Result<LatticePart, DeckFault> {
+    if text.len() > 4096 {
+        return Err(DeckFault::OutOfMemory);
+    }
+    let shape = read_shape(alloc, FileId::Lattice, text)?;
+    read(alloc, text, &shape)
+}
+
+/// The line and the kind of the fault of a text.
+fn fault_of(alloc: Global, text: &[u8]) -> Option<(u32, u8)> {
+    match read_text(alloc, text) {
+        Err(DeckFault::Fault(Fault { line, kind, .. })) => Some((line, kind)),
+        _ => None,
+    }
+}
+
+#[test]
+fn faults_of_default_lattices(rt: HostRuntime) -> Result<(), Fail> {
+    let alloc = rt.alloc();
+    for (arguments, end, line, kind) in [
+        ("1.0 2 2", "", 3, 9),
+        ("x 2 2", "end_lattice\n", 2, 11),
+        ("1.0 y 2", "end_lattice\n", 2, 12),
+        ("1.0 0 2", "end_lattice\n", 2, 13),
+        ("1.0 1 2", "end_lattice\n", 2, 26),
+        ("1.0 1000000000 1000000000", "end_lattice\n", 2, 29),
+    ] {
+        let text = format!(in alloc;
+            "lattice default_choice\nrectangular_periodic {arguments}\n{end}"
+        )?;
+        assert_eq!(rt;
+            fault_of(alloc, text.as_bytes()),
+            Some((line, kind)),
+            "{arguments}"
+        );
+    }
+    Ok(())
+}
+
+#[test]
+fn faults_of_cells(rt: HostRuntime) -> Result<(), Fail> {
+    let alloc = rt.alloc();
+    for (repeats, sites, names, types, rows, line, kind) in [
+        ("2 x", "2", "t", "1 1", "1-2 self\n", 2, 12),
+        ("2 2", "0", "t", "1 1", "1-2 self\n", 3, 13),
+        ("2 2", "2", "t u", "1 1", "1-2 self\n", 5, 15),
+        ("2 2", "2", "t", "1", "1-2 self\n", 6, 15),
+        ("2 2", "2", "t", "1 1", "1-2 self\n1-2 west\n", 9, 17),
+        ("2 2", "2", "t", "1 1", "1-3 self\n", 8, 20),
+        ("1 2", "2", "t", "1 1", "1-1 north\n1-1 east\n", 9, 26),
+        ("256 257", "1", "t", "1", "1-1 east\n", 2, 29),
+    ] {
+        let text = format!(in alloc;
+            "lattice periodic_cell\nrepeat_cell {repeats}\nn_cell_sites {sites}\nn_site_types 1\nsite_type_names {names}\nsite_types {types}\nneighboring_structure\n{rows}end_neighboring_structure\nend_lattice\n"
+        )?;
+        assert_eq!(rt;
+            fault_of(alloc, text.as_bytes()),
+            Some((line, kind)),
+            "{repeats} {sites} {names} {types} {rows}"
+        );
+    }
+    Ok(())
+}
+
+#[test]
+fn faults_of_lists_of_sites(rt: HostRuntime) -> Result<(), Fail> {
+    let alloc = rt.alloc();
+    for (names, rows, line, kind) in [
+        ("t u", "1 0.0 0.0 t 0\n", 5, 16),
+        ("t u", "1 0.0 0.0 t\n2 1.0 0.0 t 0\n", 6, 17),
+        ("t t", "1 0.0 0.0 t 0\n2 1.0 0.0 t 0\n", 4, 18),
+        ("t u", "1 0.0 0.0 t 0\n1 1.0 0.0 t 0\n", 7, 24),
+        ("t u", "1 0.0 0.0 t 1 3\n2 1.0 0.0 t 0\n", 6, 25),
+        ("t u", "1 0.0 0.0 t 1 1\n2 1.0 0.0 t 0\n", 6, 26),
+        ("t u", "1 0.0 0.0 t 1 2\n2 1.0 0.0 t 0\n", 6, 28),
+    ] {
+        let text = format!(in alloc;
+            "lattice explicit\nn_sites 2\nn_site_types 2\nsite_type_names {names}\nlattice_structure\n{rows}end_lattice_structure\nend_lattice\n"
+        )?;
+        assert_eq!(rt;
+            fault_of(alloc, text.as_bytes()),
+            Some((line, kind)),
+            "{names} {rows}"
+        );
+    }
+    let crowded =
+        b"lattice explicit\nlattice_structure\n1 0 0 t 33 2 3 4 5 6 7 8 9 10 11 12 13 14 15 16 17 18 19 20 21 22 23 24 25 26 27 28 29 30 31 32 33 34\nend_lattice_structure\nn_sites x\nn_site_types 1\nsite_type_names t\nend_lattice\n";
+    assert_eq!(rt; fault_of(alloc, crowded), Some((3, 27)));
+    Ok(())
+}
+
+#[test]
+fn reads_lattices(rt: HostRuntime) -> Result<(), Fail> {
+    let alloc = rt.alloc();
+    let cell: &[u8] =
+        b"lattice periodic_cell\nrepeat_cell 2 2\nn_cell_sites 2\nn_site_types 2\nsite_type_names top hollow\nsite_types hollow 1\nneighboring_structure\n1-2 self\n2-1 north\nend_neighboring_structure\nend_lattice\n";
+    let list: &[u8] =
+        b"lattice explicit\nn_sites 2\nn_site_types 2\nsite_type_names top hollow\nlattice_structure\n2 1.0 0.0 other 1 1\n1 0.0 0.0 2 1 2\nend_lattice_structure\nend_lattice\n";
+    let named: &[u8] = b"lattice default_choice\nhexagonal_periodic 1.0 3 3\nend_lattice\n";
+    for (text, sites, types, words, unknown, kinds, neighbours) in [
+        (cell, 8, 2, 2, None, [2, 1], [1, 3].as_slice()),
+        (list, 2, 2, 2, Some((6, 33)), [2, 0], [1].as_slice()),
+        (named, 9, 1, 0, None, [1, 1], [1, 2, 3, 4, 6, 8].as_slice()),
+    ] {
+        let part = read_text(alloc, text)?;
+        assert_eq!(rt; unknown_type(text, &part), unknown);
+        assert_eq!(rt; part.graph.len(), sites);
+        assert_eq!(rt; part.type_names.len(), types);
+        assert_eq!(rt; part.type_words.len(), words);
+        assert!(rt; 1 < part.graph.len());
+        assert_eq!(rt;
+            [
+                part.graph.site_type(SiteId(0)),
+                part.graph.site_type(SiteId(1))
+            ],
+            kinds
+        );
+        let first = part.graph.neighbours(SiteId(0));
+        assert_eq!(rt; first.len(), neighbours.len());
+        for (site, number) in first.iter().zip(neighbours) {
+            assert_eq!(rt; site.0, *number);
+        }
+    }
+    Ok(())
+}
