@@ -18,6 +18,7 @@ use Rattle.kmc_core.specs.OneSite.{State, opening, process_of, site_of, system_o
 use Rattle.kmc_core.specs.Run.{ClosedRun, IsClosedAt, IsOpenAt}
 use Rattle.kmc_core.specs.Trajectory.{Snapshot, System, fired, fresh, renewed, start, trajectory}
 use Rattle.kmc_core.specs.declared.deck.PlainDeck.{PlainDeck}
+use Rattle.lattice_core.specs.Lattice.{site_count}
 
 -- a moment that is not past the end of time
 abbrev pub IsInTime : When → Type 0
@@ -127,24 +128,24 @@ came_from {S} system seed first n now e =
 
 -- what holds at each event
 pub record IsWell (deck : PlainDeck) (s : Snapshot (List State)) : Type 0 where
-  pub sites : length s.state ≡ deck.sites
+  pub sites : length s.state ≡ site_count deck.graph
   pub time : s.time ≤ 10 ^ 30
   pub rising : IsRising (codes_of s.entries)
-  pub codes : AllByRecursion (AreCodes 0 (length deck.steps) deck.sites) (codes_of s.entries)
+  pub codes : AllByRecursion (AreCodes 0 (length deck.steps) (site_count deck.graph)) (codes_of s.entries)
   pub times : AllByRecursion (λ e. IsInTime e.when) s.entries
 
 -- the entries of a state with the deck's number of sites
 well-renewed : (deck : PlainDeck) → IsSound deck → (event : ℕ) (old : List Entry) (first : ℕ × ℕ) (sites : List State) →
-    length sites ≡ deck.sites → first.0 ≤ 10 ^ 30 → AllByRecursion (λ e. IsInTime e.when) old →
+    length sites ≡ site_count deck.graph → first.0 ≤ 10 ^ 30 → AllByRecursion (λ e. IsInTime e.when) old →
     IsWell deck (record { state = sites; time = first.0; entries = renewed deck.plan.seed event old first ((system_of deck).offers sites) })
 well-renewed deck sound event old first sites len time all =
-    let few : length sites ≤ 2 ^ 20 = omega (arith, sound.few_sites) in
+    let few : length sites ≤ 2 ^ 20 = omega (arith, sound.lattice.within_limit) in
     let codes = codes-renewed deck.plan.seed event old first ((system_of deck).offers sites) in
     record {
       sites = len;
       time = time;
       rising = subst IsRising (sym codes) (codes-rising deck.temperature sites 0 deck.steps few);
-      codes = subst (AllByRecursion (AreCodes 0 (length deck.steps) deck.sites)) (sym codes)
+      codes = subst (AllByRecursion (AreCodes 0 (length deck.steps) (site_count deck.graph))) (sym codes)
           (subst (λ (n : ℕ). AllByRecursion (AreCodes 0 (length deck.steps) n) (map (λ (o : ℕ × Option ℤ). o.0) ((system_of deck).offers sites))) len (codes-all deck.temperature sites 0 deck.steps few));
       times = renewed-in_time deck.plan.seed event old first ((system_of deck).offers sites) all;
     }
@@ -152,7 +153,7 @@ well-renewed deck sound event old first sites len time all =
 -- the first moment is in time, and its code names a step and a site of the deck
 pub record IsFirstOf (deck : PlainDeck) (first : ℕ × ℕ) : Type 0 where
   pub time : first.0 ≤ 10 ^ 30
-  pub code : AreCodes 0 (length deck.steps) deck.sites first.1
+  pub code : AreCodes 0 (length deck.steps) (site_count deck.graph) first.1
 
 all-both : (P : ℕ → Type 0) (Q : Entry → Type 0) (es : List Entry) → AllByRecursion P (codes_of es) → AllByRecursion Q es → AllByRecursion (λ e. P e.code × Q e) es
 all-both P Q [] p q = tt
@@ -160,11 +161,11 @@ all-both P Q (e ∷ es) p q = ((p.0, q.0), all-both P Q es p.1 q.1)
 
 pub first-well : (deck : PlainDeck) (s : Snapshot (List State)) (first : ℕ × ℕ) → IsWell deck s → least s.entries ≡ Some first → IsFirstOf deck first
 first-well deck s first well is =
-    let P : Entry → Type 0 = λ e. AreCodes 0 (length deck.steps) deck.sites e.code × IsInTime e.when in
-    let one : IsMomentOf P first = subst (λ (o : Option (ℕ × ℕ)). IfSome o (IsMomentOf P)) is (least-one P s.entries (all-both (AreCodes 0 (length deck.steps) deck.sites) (λ e. IsInTime e.when) s.entries well.codes well.times)) in
+    let P : Entry → Type 0 = λ e. AreCodes 0 (length deck.steps) (site_count deck.graph) e.code × IsInTime e.when in
+    let one : IsMomentOf P first = subst (λ (o : Option (ℕ × ℕ)). IfSome o (IsMomentOf P)) is (least-one P s.entries (all-both (AreCodes 0 (length deck.steps) (site_count deck.graph)) (λ e. IsInTime e.when) s.entries well.codes well.times)) in
     record {
       time = subst IsInTime one.2 one.1.1;
-      code = subst (AreCodes 0 (length deck.steps) deck.sites) one.3 one.1.0;
+      code = subst (AreCodes 0 (length deck.steps) (site_count deck.graph)) one.3 one.1.0;
     }
 
 -- the state after an event has as many sites
@@ -211,7 +212,7 @@ open-well deck event first sites entries after o =
     record {
       time = (first-well deck o.old first well came).time;
       rising = subst (λ (es : List Entry). IsRising (codes_of es)) o.old_entries well.rising;
-      few = omega (arith, ap length o.fired_sites, fires-length deck o.old.state first.1, well.sites, o.closed.sound.few_sites);
+      few = omega (arith, ap length o.fired_sites, fires-length deck o.old.state first.1, well.sites, o.closed.sound.lattice.within_limit);
     }
 
 -- the event after one that the trajectory comes to, where something fires there

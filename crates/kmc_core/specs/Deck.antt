@@ -3,9 +3,9 @@ use Rattle.std.specs.Prelude.{◌≡◌, ℕ, ◌^◌, ◌≤◌, ◌<◌, Optio
 use Rattle.std.specs.List.{All, AllByRecursion}
 use Rattle.std.specs.Option.{ForSome}
 use Rattle.kmc_base.specs.declared.ids.SpeciesId.{SpeciesId}
-use Rattle.kmc_base.specs.declared.ids.TheConstants.{MAX_SITES}
 use Rattle.kmc_core.specs.declared.deck.PlainDeck.{PlainDeck}
 use Rattle.kmc_core.specs.declared.deck.PlainStep.{PlainStep}
+use Rattle.lattice_core.specs.Lattice.{IsLattice}
 use Rattle.sim_deck.specs.Soundness.{IsSoundPlan}
 
 -- the state of a site is vacant, or one of so many species
@@ -18,11 +18,11 @@ pub record IsSoundStep (species : ℕ) (step : PlainStep) : Type 0 where
   pub after : IsState species step.after
   pub activation : unsigned_abs step.activation ≤ 10 ^ 12
 
--- the numbers of the deck are in their ranges
+-- the numbers of the deck are in their ranges, and its sites and their neighbours make a lattice
 pub record IsSound (deck : PlainDeck) : Type 0 where
   pub some_temperature : 1 ≤ deck.temperature
   pub temperature : deck.temperature ≤ 10000000
-  pub few_sites : deck.sites ≤ MAX_SITES
+  pub lattice : IsLattice deck.graph
   pub plan : IsSoundPlan deck.plan
   pub gas : deck.gas ≡ length deck.book.gas
   pub dentates : All (λ d. (1 ≤ d) × (d ≤ 8)) deck.book.dentates

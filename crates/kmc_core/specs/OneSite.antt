@@ -5,6 +5,7 @@ use Rattle.kmc_core.specs.Rate.{lg_rate, plain_barrier}
 use Rattle.kmc_core.specs.Trajectory.{System, Snapshot, trajectory}
 use Rattle.kmc_core.specs.declared.deck.PlainDeck.{PlainDeck}
 use Rattle.kmc_core.specs.declared.deck.PlainStep.{PlainStep}
+use Rattle.lattice_core.specs.Lattice.{site_count}
 
 -- The code of a process on a site, which names the instance: the process from bit 55 on, and the site in the 20 bits
 -- from bit 35 on. The bits below are for steps on more sites.
@@ -61,9 +62,9 @@ system_of deck = record {
   fires = λ sites code. slice_set sites (site_of code) (after_of deck.steps (process_of code));
 }
 
--- at the opening every site is vacant
+-- at the opening every site of the lattice is vacant
 abbrev pub opening : PlainDeck → List State
-opening deck = replicate deck.sites None
+opening deck = replicate (site_count deck.graph) None
 
 -- the trajectory of the deck, where it comes to an event
 abbrev pub trajectory_of : PlainDeck → ℕ → Option (Snapshot (List State))

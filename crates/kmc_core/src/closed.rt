@@ -56,7 +56,7 @@ fn opening(
     ensures sites { IfOk result (λ r. r.0.items ≡ opening_of deck.now) }
     ensures entries { IfOk result (λ r. r.1.items ≡ (start (system_of deck.now) deck.now.plan.seed (opening_of deck.now)).entries) }
 {
-    let sites = vacant(alloc, deck.sites)?;
+    let sites = vacant(alloc, deck.graph.len())?;
     let offers = listing::instances(alloc, deck, &sites)?;
     let mut draws = Draws::new(deck.plan.seed);
     let entries = renewal::renew(alloc, &[], (0, 0), &offers, &mut draws, 0)?;

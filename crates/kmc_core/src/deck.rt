@@ -1,4 +1,5 @@
 use kmc_base::{Items, SpeciesId};
+use lattice_core::Graph;
 use sim_deck::Plan;
 use species_book::SpeciesBook;
 
@@ -21,8 +22,8 @@ pub struct PlainStep {
 pub struct PlainDeck {
     /// The temperature in mK, from 1 to 10,000,000.
     pub temperature: u32,
-    /// The number of sites, at most `MAX_SITES`.
-    pub sites: u32,
+    /// The lattice. A step on one site looks at no neighbour, so only the number of sites matters.
+    pub graph: Graph,
     /// The random seed, the end of the run, and when it is sampled.
     pub plan: Plan,
     /// The gas species and the surface species.

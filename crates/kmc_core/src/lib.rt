@@ -8,8 +8,8 @@
 //! the end of time.
 //!
 //! The crate stands on `kmc_base` for entries and the rule by which they keep their times, on
-//! `sim_deck` for the plan of a run, on `species_book` for its species, on `fixed_math` for waiting
-//! times and on `named_draws` for random numbers.
+//! `lattice_core` for the lattice, on `sim_deck` for the plan of a run, on `species_book` for its
+//! species, on `fixed_math` for waiting times and on `named_draws` for random numbers.
 #![tactic(auto)]
 
 mod closed;

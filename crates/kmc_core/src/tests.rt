@@ -1,10 +1,12 @@
 ghost use Rattle.std.specs.Prelude.{◌≡◌, ◌^◌, ◌<◌, ◌≤◌, IfOk, IfSome, length, unsigned_abs, []};
 ghost use Rattle.std.specs.List.{All, AllByRecursion};
 ghost use Rattle.kmc_core.specs.Deck.{IsSound, IsSoundStep, IsState};
+ghost use Rattle.lattice_core.specs.Lattice.{IsLattice};
 ghost use Rattle.sim_deck.specs.Soundness.{IsPeriod, IsSoundPlan};
 
 use crate::{Closed, Fired, PlainDeck, PlainStep, Stop, Unclosed};
 use kmc_base::{Items, SpeciesId};
+use lattice_core::Graph;
 use sim_deck::{Plan, Sampling};
 use species_book::SpeciesBook;
 use std::alloc::Global;
@@ -80,6 +82,24 @@ fn book(alloc: Global) -> Result<SpeciesBook, Fail>
     Ok(SpeciesBook::new(Vec::new(alloc), surface, dentates))
 }
 
+/// A lattice of four sites that have no neighbours.
+fn four_sites(alloc: Global) -> Result<Graph, Fail>
+    ensures { IfOk result IsLattice }
+{
+    let neighbours = vec![in alloc;
+        Vec::new(alloc),
+        Vec::new(alloc),
+        Vec::new(alloc),
+        Vec::new(alloc),
+    ]?;
+    let types = vec![in alloc; 0u16; 4]?;
+    let graph = Graph::new(types, neighbours).ok().ok_or("a fault")?;
+    if graph.len() != 4 {
+        return Err("not four sites")?;
+    }
+    Ok(graph)
+}
+
 /// A deck of these steps on four sites at 500 K.
 fn deck(alloc: Global, plan: Plan, steps: &[PlainStep]) -> Result<PlainDeck, Fail>
     requires plan { IsSoundPlan plan }
@@ -90,7 +110,7 @@ fn deck(alloc: Global, plan: Plan, steps: &[PlainStep]) -> Result<PlainDeck, Fai
     let steps = Items::new(steps.to_vec(alloc)?);
     Ok(PlainDeck {
         temperature: 500_000,
-        sites: 4,
+        graph: four_sites(alloc)?,
         plan,
         book: book(alloc)?,
         gas: 0,

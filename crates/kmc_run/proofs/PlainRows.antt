@@ -1,26 +1,10 @@
--- The rows of the lattice file and of the mechanism file, by the pieces of a line or a word.
+-- The rows of the mechanism file, by the pieces of a line or a word.
 use Rattle.std.proofs.Common.{◌≡◌, ℕ, Bool, true, false, ◌&&◌, List, [], ◌∷◌, Option, Some, None, refl, ap, ◌∙◌}
 use Rattle.std.specs.Prelude.{codes, if◌then◌else◌}
 use Rattle.kmc_run.specs.PlainText.{Word, Line, pieces, same_word, after_words, words_behind, word_after, some_words, two_words, number_of, found_if, ◌>>=◌}
-use Rattle.kmc_run.specs.PlainLattice.{sides_of, two_numbers}
 use Rattle.kmc_run.specs.PlainMechanism.{digits_and_power, factor_after, factor_of, power_of, state_row, state_named}
 use Rattle.kmc_run.proofs.PlainLines.{pieces_first}
 use Rattle.kmc_run.proofs.PlainReads.{paired, first_then}
-
-two_of_some : (o : Option (List Word)) → (o >>= two_words) ≡ (o >>= some_words >>= two_words)
-unfolding two_words
-two_of_some None = refl
-two_of_some (Some []) = refl
-two_of_some (Some (word ∷ words)) = refl
-
--- the sides are the two words behind the others
-pub sides_behind : (line : Line) → sides_of line ≡ (words_behind (codes "rectangular_periodic" ∷ codes "1" ∷ []) line >>= two_words >>= two_numbers)
-unfolding sides_of words_behind
-sides_behind line = ap (λ (o : Option (Word × Word)). o >>= two_numbers) (two_of_some (after_words (codes "rectangular_periodic" ∷ codes "1" ∷ []) line))
-
-pub no_sides : sides_of [] ≡ None
-unfolding sides_of
-no_sides = refl
 
 pub no_state : (names : List Word) → state_row names [] ≡ None
 unfolding state_row
@@ -88,6 +72,3 @@ row_name names words entity name dentate rest cut found one last =
     state_row_found names words entity name dentate rest cut found
     ∙ ap (λ (t : Bool). if t && same_word dentate (codes "1") then state_named names name else None) one
     ∙ ap (λ (t : Bool). if t then state_named names name else None) last
-
-pub found_both : {X : Type 0} (s t : Bool) (x : X) → s ≡ true → t ≡ true → found_if (s && t) x ≡ Some x
-found_both s t x e f = ap (λ u. found_if (u && t) x) e ∙ ap (λ u. found_if u x) f

@@ -5,26 +5,29 @@ use Rattle.std.specs.List.{AllByRecursion}
 use Rattle.std.specs.Prelude.{is_none, unwrap_or}
 use Rattle.deck_shape.specs.Blocks.{BlockLines}
 use Rattle.deck_shape.specs.LineFaults.{block_of_text}
+use Rattle.deck_shape.specs.Reading.{first_block}
 use Rattle.deck_shape.specs.Shapes.{IsFaultOf, IsShapeOf}
 use Rattle.deck_shape.specs.declared.fault.DeckFault.{DeckFault}
 use Rattle.deck_shape.specs.declared.fault.DeckFault.TheVariants.{Fault as Faulty, OutOfMemory}
 use Rattle.deck_shape.specs.declared.fault.Fault.{Fault}
 use Rattle.deck_shape.specs.declared.shape.Shape.{Shape}
-use Rattle.deck_shape.specs.declared.table.BlockKind.TheVariants.{Simulation as SimulationBlock}
+use Rattle.deck_shape.specs.declared.table.BlockKind.{BlockKind}
+use Rattle.deck_shape.specs.declared.table.BlockKind.TheVariants.{Simulation as SimulationBlock, LatticeFile as LatticeBlock}
 use Rattle.kmc_base.specs.declared.ids.FileId.{FileId}
 use Rattle.kmc_base.specs.declared.ids.FileId.TheVariants.{Simulation, Lattice, Energetics, Mechanism}
 use Rattle.kmc_core.specs.Deck.{IsSound, IsSoundStep}
 use Rattle.kmc_core.specs.declared.deck.PlainDeck.{PlainDeck}
 use Rattle.kmc_core.specs.declared.deck.PlainStep.{PlainStep}
 use Rattle.deck_shape.specs.Lists.{names_repeat}
+use Rattle.lattice_core.specs.Lattice.{IsLattice, Lattice as SiteLattice}
+use Rattle.lattice_deck.specs.Parts.{LatticeValues, part_of as lattice_part_of}
 use Rattle.sim_deck.specs.Soundness.{IsSoundPart}
 use Rattle.sim_deck.specs.Values.{SimValues, part_of, values_at}
 use Rattle.sim_deck.specs.declared.part.Sampling.{Sampling}
 use Rattle.sim_deck.specs.declared.part.Sampling.TheVariants.{Off, Event, Time}
 use Rattle.sim_deck.specs.declared.part.SimPart.{SimPart}
 use Rattle.species_book.specs.Book.{Book, are_distinct}
-use Rattle.kmc_run.specs.PlainDecks.{Reads, and_then, book_of, built_in, deck_with, in_file, is_built, is_off, is_on_time, plain_deck, plain_step, values_in, words_of}
-use Rattle.kmc_run.specs.PlainLattice.{sites_of}
+use Rattle.kmc_run.specs.PlainDecks.{Reads, and_then, book_of, built_in, deck_with, in_file, is_built, is_off, is_on_time, plain_deck, plain_step, types_in, values_in, words_of}
 use Rattle.kmc_run.specs.PlainMechanism.{IsPlainStep, Step, is_plain_energetics, steps_of}
 use Rattle.kmc_run.specs.PlainText.{found_if}
 use Rattle.kmc_run.specs.Samples.{IsWritten}
@@ -34,26 +37,90 @@ pub reads_err : {X Y Z W : Type 0} (v : X → Y) (w : Z → W) (e : DeckFault) (
 reads_err v w (Faulty fault) given next is = ap (λ g. and_then g next) is
 reads_err v w OutOfMemory given next is = tt
 
--- a simulation file has a fault of form
-pub form_fault : {Z : Type 0} (w : Z → SimValues) (text : List ℕ) (e : DeckFault) → IsFaultOf Simulation (block_of_text SimulationBlock text) e → Reads w (Err e) (values_in text)
-form_fault w text (Faulty fault) is =
-    ap (λ r. and_then (in_file Simulation r) (λ block. in_file Simulation (part_of block))) is.1
-    ∙ ap (λ (f : FileId). Err (record { file = f; line = fault.line; kind = fault.kind })) (sym is.0)
-form_fault w text OutOfMemory is = tt
+-- a reading of a file has a fault
+pub file_fails : {X : Type 0} (file : FileId) (r : Result X (ℕ × ℕ)) (e : DeckFault) → IsFaultOf file r e → Reads (λ (x : X). x) (Err e) (in_file file r)
+file_fails file r (Faulty fault) is = ap (in_file file) is.1 ∙ ap (λ (f : FileId). Err (record { file = f; line = fault.line; kind = fault.kind })) (sym is.0)
+file_fails file r OutOfMemory is = tt
 
--- the block of a simulation file that has a shape
-pub block_read : (text : List ℕ) (shape : Shape) (s : IsShapeOf Simulation text shape) → block_of_text SimulationBlock text ≡ Ok s.block
-block_read text shape s = ap (λ o. block_of_text (unwrap_or o SimulationBlock) text) s.begins ∙ s.read
+-- the block of a file that has a shape
+pub block_read : (file : FileId) (kind : BlockKind) (text : List ℕ) (shape : Shape) → first_block file ≡ Some kind → (s : IsShapeOf file text shape) → in_file file (block_of_text kind text) ≡ Ok s.block
+block_read file kind text shape is s = ap (in_file file) (ap (λ o. block_of_text (unwrap_or o kind) text) (sym is ∙ s.begins) ∙ s.read)
 
--- the values of a block are those of its text
-pub values_read : (text : List ℕ) (block : BlockLines) (r : Result SimPart DeckFault) → block_of_text SimulationBlock text ≡ Ok block →
-    IfOk r (λ part. part_of block ≡ Ok (values_at text part)) → IfErr r (IsFaultOf Simulation (part_of block)) → Reads (values_at text) r (values_in text)
-values_read text block (Ok part) read is other =
-    ap (λ r. and_then (in_file Simulation r) (λ block. in_file Simulation (part_of block))) read ∙ ap (in_file Simulation) is
-values_read text block (Err (Faulty fault)) read other is =
-    ap (λ r. and_then (in_file Simulation r) (λ block. in_file Simulation (part_of block))) read
-    ∙ (ap (in_file Simulation) is.1 ∙ ap (λ (f : FileId). Err (record { file = f; line = fault.line; kind = fault.kind })) (sym is.0))
-values_read text block (Err OutOfMemory) read other is = tt
+-- two readings, a reading over each, and a test of the last
+abbrev both : {A B C D : Type 0} → Result A Fault → Result B Fault → (A → Result C Fault) → (B → Result D Fault) → (D → Result (Unit {0}) Fault) → Result (C × D) Fault
+both a b c d t = and_then a (λ x. and_then b (λ y. and_then (c x) (λ z. and_then (d y) (λ u. and_then (t u) (λ _. Ok (z, u))))))
+
+second : {A B C D : Type 0} (a : Result A Fault) (b : Result B Fault) (c : A → Result C Fault) (d : B → Result D Fault) (t : D → Result (Unit {0}) Fault) (x : A) (e : DeckFault) →
+    a ≡ Ok x → Reads (λ (y : B). y) (Err e) b → Reads (λ (p : C × D). p) (Err e) (both a b c d t)
+second {B = B} {C = C} {D = D} a b c d t x e is fails = rw is (reads_err (λ (y : B). y) (λ (p : C × D). p) e b _ fails)
+
+third : {A B C D : Type 0} (a : Result A Fault) (b : Result B Fault) (c : A → Result C Fault) (d : B → Result D Fault) (t : D → Result (Unit {0}) Fault) (x : A) (y : B) (e : DeckFault) →
+    a ≡ Ok x → b ≡ Ok y → Reads (λ (z : C). z) (Err e) (c x) → Reads (λ (p : C × D). p) (Err e) (both a b c d t)
+third {C = C} {D = D} a b c d t x y e is is2 fails = rw (is, is2) (reads_err (λ (z : C). z) (λ (p : C × D). p) e (c x) _ fails)
+
+fourth : {A B C D : Type 0} (a : Result A Fault) (b : Result B Fault) (c : A → Result C Fault) (d : B → Result D Fault) (t : D → Result (Unit {0}) Fault) (x : A) (y : B) (z : C) (e : DeckFault) →
+    a ≡ Ok x → b ≡ Ok y → c x ≡ Ok z → Reads (λ (u : D). u) (Err e) (d y) → Reads (λ (p : C × D). p) (Err e) (both a b c d t)
+fourth {C = C} {D = D} a b c d t x y z e is is2 is3 fails = rw (is, is2, is3) (reads_err (λ (u : D). u) (λ (p : C × D). p) e (d y) _ fails)
+
+fifth : {A B C D : Type 0} (a : Result A Fault) (b : Result B Fault) (c : A → Result C Fault) (d : B → Result D Fault) (t : D → Result (Unit {0}) Fault) (x : A) (y : B) (z : C) (u : D) (e : DeckFault) →
+    a ≡ Ok x → b ≡ Ok y → c x ≡ Ok z → d y ≡ Ok u → Reads (λ (k : Unit {0}). k) (Err e) (t u) → Reads (λ (p : C × D). p) (Err e) (both a b c d t)
+fifth {C = C} {D = D} a b c d t x y z u e is is2 is3 is4 fails = rw (is, is2, is3, is4) (reads_err (λ (k : Unit {0}). k) (λ (p : C × D). p) e (t u) _ fails)
+
+each : {A B C D : Type 0} (a : Result A Fault) (b : Result B Fault) (c : A → Result C Fault) (d : B → Result D Fault) (t : D → Result (Unit {0}) Fault) (x : A) (y : B) (z : C) (u : D) →
+    a ≡ Ok x → b ≡ Ok y → c x ≡ Ok z → d y ≡ Ok u → t u ≡ Ok tt → both a b c d t ≡ Ok (z, u)
+each a b c d t x y z u is is2 is3 is4 is5 = rw (is, is2, is3, is4, is5) refl
+
+-- the readings of a simulation file and a lattice file
+abbrev pub simulation_lines : List ℕ → Result BlockLines Fault
+simulation_lines text = in_file Simulation (block_of_text SimulationBlock text)
+
+abbrev pub lattice_lines : List ℕ → Result BlockLines Fault
+lattice_lines text = in_file Lattice (block_of_text LatticeBlock text)
+
+abbrev pub values_on : BlockLines → Result SimValues Fault
+values_on block = in_file Simulation (part_of block)
+
+abbrev pub lattice_on : BlockLines → Result LatticeValues Fault
+lattice_on block = in_file Lattice (lattice_part_of block)
+
+-- the values of the two files end with a fault
+abbrev pub Stops : DeckFault → List ℕ → List ℕ → Type 0
+Stops e s l = Reads (λ (p : SimValues × LatticeValues). p) (Err e) (values_in s l)
+
+-- a fault of form of the simulation file
+pub form_fails : (s l : List ℕ) (e : DeckFault) → IsFaultOf Simulation (block_of_text SimulationBlock s) e → Stops e s l
+unfolding values_in
+form_fails s l e fault = reads_err (λ (b : BlockLines). b) (λ (p : SimValues × LatticeValues). p) e (simulation_lines s) _ (file_fails Simulation _ e fault)
+
+-- a fault of form of the lattice file
+pub lattice_form_fails : (s l : List ℕ) (x : BlockLines) (e : DeckFault) → simulation_lines s ≡ Ok x → IsFaultOf Lattice (block_of_text LatticeBlock l) e → Stops e s l
+unfolding values_in
+lattice_form_fails s l x e is fault = second (simulation_lines s) (lattice_lines l) values_on lattice_on types_in x e is (file_fails Lattice _ e fault)
+
+-- a fault of a value of the simulation file
+pub values_fail : (s l : List ℕ) (x y : BlockLines) (e : DeckFault) → simulation_lines s ≡ Ok x → lattice_lines l ≡ Ok y → IsFaultOf Simulation (part_of x) e → Stops e s l
+unfolding values_in
+values_fail s l x y e is is2 fault = third (simulation_lines s) (lattice_lines l) values_on lattice_on types_in x y e is is2 (file_fails Simulation _ e fault)
+
+-- a fault of a value of the lattice file
+pub lattice_values_fail : (s l : List ℕ) (x y : BlockLines) (z : SimValues) (e : DeckFault) → simulation_lines s ≡ Ok x → lattice_lines l ≡ Ok y → part_of x ≡ Ok z → IsFaultOf Lattice (lattice_part_of y) e → Stops e s l
+unfolding values_in
+lattice_values_fail s l x y z e is is2 is3 fault =
+    fourth (simulation_lines s) (lattice_lines l) values_on lattice_on types_in x y z e is is2 (ap (in_file Simulation) is3) (file_fails Lattice _ e fault)
+
+-- a type word that is no type
+pub types_fail : (s l : List ℕ) (x y : BlockLines) (z : SimValues) (u : LatticeValues) (e : DeckFault) → simulation_lines s ≡ Ok x → lattice_lines l ≡ Ok y →
+    part_of x ≡ Ok z → lattice_part_of y ≡ Ok u → Reads (λ (k : Unit {0}). k) (Err e) (types_in u) → Stops e s l
+unfolding values_in
+types_fail s l x y z u e is is2 is3 is4 fails =
+    fifth (simulation_lines s) (lattice_lines l) values_on lattice_on types_in x y z u e is is2 (ap (in_file Simulation) is3) (ap (in_file Lattice) is4) fails
+
+-- no fault
+pub values_read : (s l : List ℕ) (x y : BlockLines) (z : SimValues) (u : LatticeValues) → simulation_lines s ≡ Ok x → lattice_lines l ≡ Ok y →
+    part_of x ≡ Ok z → lattice_part_of y ≡ Ok u → types_in u ≡ Ok tt → values_in s l ≡ Ok (z, u)
+unfolding values_in
+values_read s l x y z u is is2 is3 is4 is5 =
+    each (simulation_lines s) (lattice_lines l) values_on lattice_on types_in x y z u is is2 (ap (in_file Simulation) is3) (ap (in_file Lattice) is4) is5
 
 or_false : (x y : Bool) → (x || y) ≡ false → (x ≡ false) × (y ≡ false)
 or_false true y e = absurd (let f : ⊥ = cc in f)
@@ -102,14 +169,14 @@ pub sound_steps : (count : ℕ) (steps : List Step) → AllByRecursion (IsPlainS
 sound_steps count [] all = tt
 sound_steps count (step ∷ steps) all = (record { before = all.0.before; after = all.0.after; activation = omega (arith, all.0.activation) }, sound_steps count steps all.1)
 
--- the deck of a sound simulation file is sound
-pub sound_deck : (values : SimValues) (book : Book) (sites gas : ℕ) (steps : List Step) (joined : List PlainStep) → IsSoundPart values → book ≡ book_of values → gas ≡ length book.gas →
-    sites ≤ 65536 → length steps ≤ 16 → AllByRecursion (IsPlainStep (length book.surface)) steps → joined ≡ map plain_step steps →
-    IsSound (record { temperature = values.temperature; sites = sites; plan = values.plan; book = book; gas = gas; steps = joined })
-sound_deck values book sites gas steps joined sound is gases few_sites few plain all = record {
+-- the deck of a sound simulation file and a lattice is sound
+pub sound_deck : (values : SimValues) (book : Book) (graph : SiteLattice) (gas : ℕ) (steps : List Step) (joined : List PlainStep) → IsSoundPart values → book ≡ book_of values → gas ≡ length book.gas →
+    IsLattice graph → length steps ≤ 16 → AllByRecursion (IsPlainStep (length book.surface)) steps → joined ≡ map plain_step steps →
+    IsSound (record { temperature = values.temperature; graph = graph; plan = values.plan; book = book; gas = gas; steps = joined })
+sound_deck values book graph gas steps joined sound is gases lattice few plain all = record {
   some_temperature = sound.some_temperature;
   temperature = sound.temperature;
-  few_sites = few_sites;
+  lattice = lattice;
   plan = sound.plan;
   gas = gases;
   dentates = rw is sound.dentates;
@@ -124,29 +191,24 @@ Fails e given = Reads (λ (deck : PlainDeck). deck) (Err e) given
 abbrev pub passes : Bool → FileId → Result (Unit {0}) Fault
 passes built file = built_in file (found_if built (tt {0}))
 
-pub fails_simulation : (values : SimValues) (l e m : List ℕ) (built : Bool) (fault : DeckFault) → built ≡ is_built values →
-    Reads (λ (u : Unit {0}). tt {0}) (Err fault) (passes built Simulation) → Fails fault (deck_with values l e m)
+pub fails_simulation : (values : SimValues) (g : SiteLattice) (e m : List ℕ) (built : Bool) (fault : DeckFault) → built ≡ is_built values →
+    Reads (λ (u : Unit {0}). tt {0}) (Err fault) (passes built Simulation) → Fails fault (deck_with values g e m)
 unfolding deck_with
-fails_simulation values l e m built fault is no_file = reads_err (λ (u : Unit {0}). tt {0}) (λ deck. deck) fault _ _ (rw is at no_file)
+fails_simulation values g e m built fault is no_file = reads_err (λ (u : Unit {0}). tt {0}) (λ deck. deck) fault _ _ (rw is at no_file)
 
-pub fails_lattice : (values : SimValues) (l e m : List ℕ) (built : Bool) (fault : DeckFault) → built ≡ is_built values → passes built Simulation ≡ Ok tt →
-    Reads (λ (n : ℕ). n) (Err fault) (built_in Lattice (sites_of l)) → Fails fault (deck_with values l e m)
+pub fails_energetics : (values : SimValues) (g : SiteLattice) (e m : List ℕ) (built plain : Bool) (fault : DeckFault) → built ≡ is_built values → passes built Simulation ≡ Ok tt →
+    plain ≡ is_plain_energetics e → Reads (λ (u : Unit {0}). tt {0}) (Err fault) (passes plain Energetics) → Fails fault (deck_with values g e m)
 unfolding deck_with
-fails_lattice values l e m built fault is first no_file = rw (← is, first) (reads_err (λ (n : ℕ). n) (λ deck. deck) fault _ _ no_file)
+fails_energetics values g e m built plain fault is first is2 no_file =
+    rw (← is, first, ← is2) (reads_err (λ (u : Unit {0}). tt {0}) (λ deck. deck) fault _ _ no_file)
 
-pub fails_energetics : (values : SimValues) (l e m : List ℕ) (built plain : Bool) (sites : ℕ) (fault : DeckFault) → built ≡ is_built values → passes built Simulation ≡ Ok tt →
-    built_in Lattice (sites_of l) ≡ Ok sites → plain ≡ is_plain_energetics e → Reads (λ (u : Unit {0}). tt {0}) (Err fault) (passes plain Energetics) → Fails fault (deck_with values l e m)
+-- the two first files are of the form that is built
+pub with_steps : (values : SimValues) (g : SiteLattice) (e m : List ℕ) (built plain : Bool) (names : List (List ℕ)) → built ≡ is_built values → passes built Simulation ≡ Ok tt →
+    plain ≡ is_plain_energetics e → passes plain Energetics ≡ Ok tt → names ≡ words_of values.surface →
+    deck_with values g e m ≡ and_then (built_in Mechanism (steps_of names m)) (λ steps. Ok (plain_deck values g steps))
 unfolding deck_with
-fails_energetics values l e m built plain sites fault is first second is2 no_file =
-    rw (← is, first, second, ← is2) (reads_err (λ (u : Unit {0}). tt {0}) (λ deck. deck) fault _ _ no_file)
+with_steps values g e m built plain names is first is2 next is3 = rw (← is, first, ← is2, next, is3) refl
 
--- the three first files are of the form that is built
-pub with_steps : (values : SimValues) (l e m : List ℕ) (built plain : Bool) (sites : ℕ) (names : List (List ℕ)) → built ≡ is_built values → passes built Simulation ≡ Ok tt →
-    built_in Lattice (sites_of l) ≡ Ok sites → plain ≡ is_plain_energetics e → passes plain Energetics ≡ Ok tt → names ≡ words_of values.surface →
-    deck_with values l e m ≡ and_then (built_in Mechanism (steps_of names m)) (λ steps. Ok (plain_deck values sites steps))
-unfolding deck_with
-with_steps values l e m built plain sites names is first second is2 third is3 = rw (← is, first, second, ← is2, third, is3) refl
-
-pub fails_mechanism : {X : Type 0} (v : X → List Step) (values : SimValues) (m : List ℕ) (sites : ℕ) (names : List (List ℕ)) (given : Result PlainDeck Fault) (fault : DeckFault) →
-    given ≡ and_then (built_in Mechanism (steps_of names m)) (λ steps. Ok (plain_deck values sites steps)) → Reads v (Err fault) (built_in Mechanism (steps_of names m)) → Fails fault given
-fails_mechanism v values m sites names given fault is no_file = rw is (reads_err v (λ deck. deck) fault _ _ no_file)
+pub fails_mechanism : {X : Type 0} (v : X → List Step) (values : SimValues) (m : List ℕ) (g : SiteLattice) (names : List (List ℕ)) (given : Result PlainDeck Fault) (fault : DeckFault) →
+    given ≡ and_then (built_in Mechanism (steps_of names m)) (λ steps. Ok (plain_deck values g steps)) → Reads v (Err fault) (built_in Mechanism (steps_of names m)) → Fails fault given
+fails_mechanism v values m g names given fault is no_file = rw is (reads_err v (λ deck. deck) fault _ _ no_file)

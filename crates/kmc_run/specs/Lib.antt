@@ -1,6 +1,5 @@
 pub mod Answers
 pub mod PlainDecks
-pub mod PlainLattice
 pub mod PlainMechanism
 pub mod PlainNames
 pub mod PlainText

@@ -7,18 +7,20 @@ use Rattle.deck_shape.specs.declared.fault.DeckFault.{DeckFault}
 use Rattle.deck_shape.specs.declared.fault.DeckFault.TheVariants.{Fault as Faulty, OutOfMemory}
 use Rattle.deck_shape.specs.declared.fault.Fault.{Fault}
 use Rattle.deck_shape.specs.declared.kind.TheConstants.{FILE_ABSENT, FILE_TOO_LONG, NOT_BUILT}
-use Rattle.deck_shape.specs.declared.table.BlockKind.TheVariants.{Simulation as SimulationBlock}
+use Rattle.deck_shape.specs.declared.table.BlockKind.TheVariants.{Simulation as SimulationBlock, LatticeFile as LatticeBlock}
 use Rattle.fixed_math.specs.DecimalLogarithm.{lg_of_decimal}
 use Rattle.kmc_base.specs.Files.{Files}
 use Rattle.kmc_base.specs.declared.ids.FileId.{FileId}
 use Rattle.kmc_base.specs.declared.ids.FileId.TheVariants.{Simulation, Lattice, Energetics, Mechanism}
 use Rattle.kmc_core.specs.declared.deck.PlainDeck.{PlainDeck}
 use Rattle.kmc_core.specs.declared.deck.PlainStep.{PlainStep}
+use Rattle.lattice_core.specs.Lattice.{Lattice as SiteLattice}
+use Rattle.lattice_deck.specs.Parts.{LatticeValues, part_of as lattice_part_of}
+use Rattle.lattice_deck.specs.Types.{unknown_type}
 use Rattle.sim_deck.specs.Values.{SimValues, part_of}
 use Rattle.sim_deck.specs.declared.part.Sampling.{Sampling}
 use Rattle.sim_deck.specs.declared.part.Sampling.TheVariants.{Off, Event, Time}
 use Rattle.species_book.specs.Book.{Book}
-use Rattle.kmc_run.specs.PlainLattice.{sites_of}
 use Rattle.kmc_run.specs.PlainMechanism.{Step, is_plain_energetics, steps_of}
 use Rattle.kmc_run.specs.PlainText.{found_if}
 use Rattle.kmc_run.specs.Texts.{texts_of}
@@ -55,9 +57,25 @@ abbrev pub built_in : {X : Type 0} → FileId → Option X → Result X Fault
 built_in file None = Err (not_built file)
 built_in file (Some x) = Ok x
 
--- the values of a simulation file: its faults of form come before those of its values
-abbrev pub values_in : List ℕ → Result SimValues Fault
-values_in text = and_then (in_file Simulation (block_of_text SimulationBlock text)) (λ block. in_file Simulation (part_of block))
+-- nothing, or a fault
+abbrev pub unless_fault : Option (ℕ × ℕ) → Result (Unit {0}) (ℕ × ℕ)
+unless_fault None = Ok tt
+unless_fault (Some fault) = Err fault
+
+-- each type word of a lattice file is a type of its names
+abbrev pub types_in : LatticeValues → Result (Unit {0}) Fault
+types_in lattice = in_file Lattice (unless_fault (unknown_type lattice.type_names lattice.type_words))
+
+-- The values of a simulation file and a lattice file, or the first fault: the faults of form of both come first, then
+-- those of their values, and then a type word of the lattice that is no type.
+unfoldable pub values_in : List ℕ → List ℕ → Result (SimValues × LatticeValues) Fault
+values_in simulation lattice =
+    and_then (in_file Simulation (block_of_text SimulationBlock simulation)) (λ simulation_lines.
+    and_then (in_file Lattice (block_of_text LatticeBlock lattice)) (λ lattice_lines.
+    and_then (in_file Simulation (part_of simulation_lines)) (λ simulation_values.
+    and_then (in_file Lattice (lattice_part_of lattice_lines)) (λ lattice_values.
+    and_then (types_in lattice_values) (λ _.
+    Ok (simulation_values, lattice_values))))))
 
 -- an output is never sampled
 abbrev pub is_off : Sampling → Bool
@@ -98,36 +116,35 @@ plain_step step = record {
 }
 
 -- the deck of what the files say
-abbrev pub plain_deck : SimValues → ℕ → List Step → PlainDeck
-plain_deck values sites steps = record {
+abbrev pub plain_deck : SimValues → SiteLattice → List Step → PlainDeck
+plain_deck values lattice steps = record {
   temperature = values.temperature;
-  sites = sites;
+  graph = lattice;
   plan = values.plan;
   book = book_of values;
   gas = length values.gas;
   steps = map plain_step steps;
 }
 
--- The deck of the values of a simulation file and the texts of the three other files, or the first file of the four
--- that is not of a form that is built. The mechanism is read over the names of the surface species.
-unfoldable pub deck_with : SimValues → List ℕ → List ℕ → List ℕ → Result PlainDeck Fault
+-- The deck of the values of a simulation file, a lattice and the texts of the two other files, or the first file of
+-- the three that is not of a form that is built. The mechanism is read over the names of the surface species.
+unfoldable pub deck_with : SimValues → SiteLattice → List ℕ → List ℕ → Result PlainDeck Fault
 deck_with values lattice energetics mechanism =
     and_then (built_in Simulation (found_if (is_built values) (tt {0}))) (λ _.
-    and_then (built_in Lattice (sites_of lattice)) (λ sites.
     and_then (built_in Energetics (found_if (is_plain_energetics energetics) (tt {0}))) (λ _.
     and_then (built_in Mechanism (steps_of (words_of values.surface) mechanism)) (λ steps.
-    Ok (plain_deck values sites steps)))))
+    Ok (plain_deck values lattice steps))))
 
 -- The deck of four texts, or its first fault: first, file by file, whether a text is there and not too long; then the
--- simulation file; and then what is not built.
+-- simulation file and the lattice file; and then what is not built.
 unfoldable pub deck_of : Texts → Result PlainDeck Fault
 deck_of texts =
     and_then (bytes_in Simulation texts.simulation) (λ simulation.
     and_then (bytes_in Lattice texts.lattice) (λ lattice.
     and_then (bytes_in Energetics texts.energetics) (λ energetics.
     and_then (bytes_in Mechanism texts.mechanism) (λ mechanism.
-    and_then (values_in simulation) (λ values.
-    deck_with values lattice energetics mechanism)))))
+    and_then (values_in simulation lattice) (λ values.
+    deck_with values.0 values.1.lattice energetics mechanism)))))
 
 -- the deck of the files of a folder
 abbrev pub deck_of_files : Files → Result PlainDeck Fault

@@ -4,13 +4,13 @@ ghost use Rattle.std.specs.Prelude.{◌≡◌, ◌≤◌, ◌<◌, ◌-◌, ◌^
 ghost use Rattle.std.specs.List.{AllByRecursion, list_all};
 ghost use Rattle.deck_shape.specs.Names.{name_at};
 ghost use Rattle.deck_shape.specs.declared.fault.DeckFault.TheVariants.{Fault as Faulty};
-ghost use Rattle.kmc_base.specs.declared.ids.FileId.TheVariants.{Lattice, Mechanism};
+ghost use Rattle.kmc_base.specs.declared.ids.FileId.TheVariants.{Mechanism};
 ghost use Rattle.kmc_core.specs.Deck.{IsSound};
+ghost use Rattle.lattice_deck.specs.Parts.{values_at as lattice_values_at};
 ghost use Rattle.sim_deck.specs.Soundness.{IsSoundPart};
 ghost use Rattle.sim_deck.specs.Values.{values_at};
 ghost use Rattle.species_book.specs.Book.{names_of as names_in};
-ghost use Rattle.kmc_run.specs.PlainDecks.{Reads, book_of, built_in, bytes_in, deck_of, deck_with, file_fault, is_built, is_off, is_on_time, plain_deck, plain_step, values_in, words_of};
-ghost use Rattle.kmc_run.specs.PlainLattice.{sites_of};
+ghost use Rattle.kmc_run.specs.PlainDecks.{Reads, book_of, built_in, bytes_in, deck_of, deck_with, file_fault, is_built, is_off, is_on_time, plain_deck, plain_step, types_in, values_in, words_of};
 ghost use Rattle.kmc_run.specs.PlainMechanism.{IsPlainStep, steps_of};
 ghost use Rattle.kmc_run.specs.PlainText.{found_if};
 ghost use Rattle.kmc_run.specs.PlainViews.{step_view};
@@ -25,14 +25,15 @@ use deck_shape::{DeckFault, Fault, Name, read_shape};
 use fixed_math::lg_decimal;
 use kmc_base::{FileId, Items, OutOfMemory};
 use kmc_core::{PlainDeck, PlainStep};
+use lattice_core::Graph;
+use lattice_deck::{LatticePart, unknown_type};
 use sim_deck::{Sampling, SimPart};
 use species_book::SpeciesBook;
 use std::alloc::Global;
 
-/// The texts of the files beside the simulation file.
+/// The texts of the files that are read in their plain form.
 #[derive(Debug, Drop)]
-struct OtherTexts<'a> {
-    lattice: &'a [u8],
+struct PlainTexts<'a> {
     energetics: &'a [u8],
     mechanism: &'a [u8],
 }
@@ -60,14 +61,37 @@ fn bytes_of(file: FileId, text: &Text) -> Result<&[u8], DeckFault>
     }
 }
 
-/// The values of a simulation file, or its first fault.
-fn read_values(alloc: Global, text: &[u8]) -> Result<SimPart, DeckFault>
-    requires { length text.now ≤ 16777216 }
-    ensures values { Reads (values_at text.now) result (values_in text.now) }
-    ensures sound { IfOk result (λ part. IsSoundPart (values_at text.now part)) }
+/// Goes on where each type word of a lattice file is a type.
+fn check_types(text: &[u8], part: &LatticePart) -> Result<(), DeckFault>
+    ensures { Reads (λ _. tt) result (types_in (lattice_values_at text.now part.now)) }
 {
-    let shape = read_shape(alloc, FileId::Simulation, text)?;
-    sim_deck::read(alloc, text, &shape)
+    match unknown_type(text, part) {
+        Some((line, kind)) => Err(DeckFault::Fault(Fault {
+            file: FileId::Lattice,
+            line,
+            kind,
+        })),
+        None => Ok(()),
+    }
+}
+
+/// The values of a simulation file and a lattice file, or the first fault.
+fn read_values(
+    alloc: Global,
+    simulation: &[u8],
+    lattice: &[u8],
+) -> Result<(SimPart, LatticePart), DeckFault>
+    requires simulation { length simulation.now ≤ 16777216 }
+    requires lattice { length lattice.now ≤ 16777216 }
+    ensures values { Reads (λ parts. (values_at simulation.now parts.0, lattice_values_at lattice.now parts.1)) result (values_in simulation.now lattice.now) }
+    ensures sound { IfOk result (λ parts. IsSoundPart (values_at simulation.now parts.0)) }
+{
+    let simulation_shape = read_shape(alloc, FileId::Simulation, simulation)?;
+    let lattice_shape = read_shape(alloc, FileId::Lattice, lattice)?;
+    let simulation_part = sim_deck::read(alloc, simulation, &simulation_shape)?;
+    let lattice_part = lattice_deck::read(alloc, lattice, &lattice_shape)?;
+    check_types(lattice, &lattice_part)?;
+    Ok((simulation_part, lattice_part))
 }
 
 /// An output is never sampled.
@@ -118,17 +142,6 @@ fn go_on_if(built: bool, file: FileId) -> Result<(), DeckFault>
         Ok(())
     } else {
         Err(file_fault(file, NOT_BUILT))
-    }
-}
-
-/// The number of sites of a lattice file.
-fn read_sites(text: &[u8]) -> Result<u32, DeckFault>
-    ensures value { Reads (λ sites. sites) result (built_in Lattice (sites_of text.now)) }
-    ensures few { IfOk result (λ sites. sites ≤ 65536) }
-{
-    match plain::read_lattice(text) {
-        Some(sites) => Ok(sites),
-        None => Err(file_fault(FileId::Lattice, NOT_BUILT)),
     }
 }
 
@@ -198,23 +211,22 @@ fn join(
     alloc: Global,
     text: &[u8],
     part: &SimPart,
-    sites: u32,
+    graph: Graph,
     book: SpeciesBook,
     steps: &[StepText],
 ) -> Result<PlainDeck, OutOfMemory>
     requires sound { IsSoundPart (values_at text.now part.now) }
     requires book { book ≡ book_of (values_at text.now part.now) }
-    requires few_sites { sites ≤ 65536 }
     requires few_steps { length steps.now ≤ 16 }
     requires steps { AllByRecursion (IsPlainStep (length book.surface)) (map step_view steps.now) }
-    ensures value { IfOk result (λ deck. deck ≡ plain_deck (values_at text.now part.now) sites (map step_view steps.now)) }
+    ensures value { IfOk result (λ deck. deck ≡ plain_deck (values_at text.now part.now) graph (map step_view steps.now)) }
     ensures sound { IfOk result IsSound }
 {
     let steps = join_steps(alloc, steps)?;
     let gas = book.gas_names().len() as u8;
     Ok(PlainDeck {
         temperature: part.temperature,
-        sites,
+        graph,
         plan: part.plan,
         book,
         gas,
@@ -222,31 +234,32 @@ fn join(
     })
 }
 
-/// The deck of the values of a simulation file and the three other texts, or the first file that is not built.
+/// The deck of the values of a simulation file, a lattice and the two other texts, or the first file that is not built.
 #[tactic(auto, unfolding(crate::specs::PlainDecks::deck_with))]
 fn deck_with(
     alloc: Global,
     text: &[u8],
     part: &SimPart,
-    others: &OtherTexts<'_>,
+    graph: Graph,
+    others: &PlainTexts<'_>,
 ) -> Result<PlainDeck, DeckFault>
     requires { IsSoundPart (values_at text.now part.now) }
-    ensures value { Reads (λ deck. deck) result (deck_with (values_at text.now part.now) others.now.lattice.now others.now.energetics.now others.now.mechanism.now) }
+    ensures value { Reads (λ deck. deck) result (deck_with (values_at text.now part.now) graph others.now.energetics.now others.now.mechanism.now) }
     ensures sound { IfOk result IsSound }
     ensures written { IfOk result (λ deck. IsWritten deck.plan) }
 {
     go_on_if(is_built(text, part), FileId::Simulation)?;
-    let sites = read_sites(others.lattice)?;
     go_on_if(plain::is_energetics(others.energetics), FileId::Energetics)?;
     let book = book_of(alloc, text, part)?;
     let steps = read_steps(alloc, &book, others.mechanism)?;
-    Ok(join(alloc, text, part, sites, book, &steps)?)
+    Ok(join(alloc, text, part, graph, book, &steps)?)
 }
 
 /// The deck of the texts, or its first fault.
 #[tactic(auto, unfolding(crate::specs::PlainDecks::deck_of))]
 pub(crate) fn read_deck(alloc: Global, texts: &Texts) -> Result<PlainDeck, DeckFault>
-    requires { IsShort texts.now.simulation }
+    requires simulation { IsShort texts.now.simulation }
+    requires lattice { IsShort texts.now.lattice }
     ensures value { Reads (λ deck. deck) result (deck_of texts.now) }
     ensures sound { IfOk result IsSound }
     ensures written { IfOk result (λ deck. IsWritten deck.plan) }
@@ -255,11 +268,10 @@ pub(crate) fn read_deck(alloc: Global, texts: &Texts) -> Result<PlainDeck, DeckF
     let lattice = bytes_of(FileId::Lattice, &texts.lattice)?;
     let energetics = bytes_of(FileId::Energetics, &texts.energetics)?;
     let mechanism = bytes_of(FileId::Mechanism, &texts.mechanism)?;
-    let part = read_values(alloc, simulation)?;
-    let others = OtherTexts {
-        lattice,
+    let (part, lattice_part) = read_values(alloc, simulation, lattice)?;
+    let others = PlainTexts {
         energetics,
         mechanism,
     };
-    deck_with(alloc, simulation, &part, &others)
+    deck_with(alloc, simulation, &part, lattice_part.graph, &others)
 }

@@ -32,7 +32,7 @@ fn load_text<F: Folder>(alloc: Global, folder: &mut F, file: FileId) -> Result<T
 /// The texts of the four files of a deck, loaded in order. The first that fails ends it.
 pub(crate) fn load_texts<F: Folder>(alloc: Global, folder: &mut F) -> Result<Texts, Status>
     ensures texts { IfOk result (λ texts. IfSome (F.files folder.old) (λ told. texts ≡ texts_of told)) }
-    ensures short { IfOk result (λ texts. IsShort texts.simulation) }
+    ensures short { IfOk result (λ texts. IsShort texts.simulation × IsShort texts.lattice) }
     ensures fault { IfErr result IsLoadFault }
     ensures cause { IfErr result (HasCause (F.read_faults folder.old) (F.read_faults folder.new) (F.write_faults folder.old) (F.write_faults folder.new)) }
     ensures outs { F.outs folder.new ≡ F.outs folder.old }

@@ -1,7 +1,11 @@
+ghost use Rattle.std.specs.Prelude.{IfOk};
+ghost use Rattle.lattice_core.specs.Lattice.{IsLattice};
+
 use super::*;
 use deck_shape::kind;
 use kmc_base::{FileId, Items, MemoryFolder, MemorySink, OpenGate, OutId, SpeciesId};
 use kmc_core::{PlainDeck, PlainStep, Stop};
+use lattice_core::Graph;
 use sim_deck::{Plan, Sampling};
 use species_book::SpeciesBook;
 use std::alloc::Global;
@@ -14,6 +18,13 @@ const LATTICE: &str = "lattice default_choice\nrectangular_periodic 1 2 2\nend_l
 const ENERGETICS: &str = "energetics\nend_energetics\n";
 
 const EXPLICIT: &str = "lattice explicit\n";
+
+/// A lattice whose sites are their own neighbours.
+const NARROW: &str = "lattice default_choice\nrectangular_periodic 1.0 1 2\nend_lattice\n";
+
+/// A lattice one of whose sites has no type that there is.
+const UNKNOWN: &str =
+    "lattice explicit\nn_sites 2\nn_site_types 1\nsite_type_names top\nlattice_structure\n1 0.0 0.0 top 1 2\n2 1.0 0.0 2 1 1\nend_lattice_structure\nend_lattice\n";
 
 /// A step from a vacant site to a vacant site, whose waits are all 1 as.
 const STAYS: &str =
@@ -179,14 +190,86 @@ fn refuses_simulation_files(rt: HostRuntime) -> Result<(), Fail> {
 }
 
 #[test]
+fn runs_on_each_kind_of_lattice(rt: HostRuntime) -> Result<(), Fail> {
+    const CASES: [(&str, &str); 3] = [
+        (
+            "lattice default_choice\nhexagonal_periodic 1.0 2 2\nend_lattice\n",
+            "specnum 1\ncolumns sample event time temperature energy A* A\n0 0 0.000000000000000000 500.000 0.000000000 0 0\n1 1 0.000000000000000001 500.000 0.000000000 1 0\n2 2 0.000000000000000001 500.000 0.000000000 2 0\n3 3 0.000000000000000001 500.000 0.000000000 3 0\n4 4 0.000000000000000001 500.000 0.000000000 4 0\n",
+        ),
+        (
+            "lattice periodic_cell\nrepeat_cell 1 2\nn_cell_sites 2\nn_site_types 2\nsite_type_names top hollow\nsite_types hollow 1\nneighboring_structure\n1-2 self\n2-1 north\nend_neighboring_structure\nend_lattice\n",
+            "specnum 1\ncolumns sample event time temperature energy A* A\n0 0 0.000000000000000000 500.000 0.000000000 0 0\n1 1 0.000000000000000001 500.000 0.000000000 1 0\n2 2 0.000000000000000001 500.000 0.000000000 2 0\n3 3 0.000000000000000001 500.000 0.000000000 3 0\n4 4 0.000000000000000001 500.000 0.000000000 4 0\n",
+        ),
+        (
+            "# two sites\nlattice explicit\nn_sites 2\nn_site_types 2\nsite_type_names top hollow\nlattice_structure\n2 1.0 0.0 top 1 1\n1 0.0 0.0 2 1 2\nend_lattice_structure\nend_lattice\n",
+            "specnum 1\ncolumns sample event time temperature energy A* A\n0 0 0.000000000000000000 500.000 0.000000000 0 0\n1 1 0.000000000000000001 500.000 0.000000000 1 0\n2 2 0.000000000000000001 500.000 0.000000000 2 0\n",
+        ),
+    ];
+    let alloc = rt.alloc();
+    for (lattice, output) in CASES {
+        let mut folder = folder(alloc, SAMPLED, lattice, ENERGETICS, FILLS, 0, 0)?;
+        assert_eq!(rt; run(&rt, alloc, "run", 1, &mut folder)?, Status::Done);
+        match folder.output(OutId::Specnum) {
+            Some(written) => assert_eq!(rt; written, output.as_bytes()),
+            None => assert!(rt; output.is_empty()),
+        }
+    }
+    Ok(())
+}
+
+// Faults of form come before faults of values, those before a type that is none, and that before what is not built; of
+// two faults of one of these the one of the simulation file comes first.
+#[test]
+fn refuses_lattice_files(rt: HostRuntime) -> Result<(), Fail> {
+    const CASES: [(usize, &str, &str, FileId, u32, u8); 6] = [
+        (11, "", NARROW, FileId::Lattice, 2, kind::SELF_NEIGHBOUR),
+        (11, "", UNKNOWN, FileId::Lattice, 7, kind::UNKNOWN_TYPE),
+        (
+            9,
+            "surf_specs_dent 1 1\n",
+            EXPLICIT,
+            FileId::Lattice,
+            2,
+            kind::NOT_CLOSED,
+        ),
+        (2, "", EXPLICIT, FileId::Simulation, 10, kind::MISSING_WORD),
+        (
+            9,
+            "surf_specs_dent 1 1\n",
+            NARROW,
+            FileId::Simulation,
+            10,
+            kind::LIST_LENGTH,
+        ),
+        (
+            9,
+            "surf_specs_dent 2\n",
+            UNKNOWN,
+            FileId::Lattice,
+            7,
+            kind::UNKNOWN_TYPE,
+        ),
+    ];
+    let alloc = rt.alloc();
+    for (place, text, lattice, file, line, kind) in CASES {
+        let simulation = simulation_with(alloc, place, text)?;
+        let mut folder = folder(alloc, &simulation, lattice, ENERGETICS, FILLS, 0, 0)?;
+        let status = run(&rt, alloc, "run", 1, &mut folder)?;
+        assert_eq!(rt; status, refused(file, line, kind));
+    }
+    Ok(())
+}
+
+#[test]
 fn refuses_with_the_first_fault(rt: HostRuntime) -> Result<(), Fail> {
-    const CASES: [(&str, &str, &str, &str, FileId, u8); 5] = [
+    const CASES: [(&str, &str, &str, &str, FileId, u32, u8); 5] = [
         (
             SAMPLED,
             EXPLICIT,
             "",
             FILLS,
             FileId::Energetics,
+            0,
             kind::FILE_ABSENT,
         ),
         (
@@ -195,6 +278,7 @@ fn refuses_with_the_first_fault(rt: HostRuntime) -> Result<(), Fail> {
             ENERGETICS,
             "",
             FileId::Mechanism,
+            0,
             kind::FILE_ABSENT,
         ),
         (
@@ -203,7 +287,8 @@ fn refuses_with_the_first_fault(rt: HostRuntime) -> Result<(), Fail> {
             "more\n",
             FILLS,
             FileId::Lattice,
-            kind::NOT_BUILT,
+            2,
+            kind::NOT_CLOSED,
         ),
         (
             SAMPLED,
@@ -211,6 +296,7 @@ fn refuses_with_the_first_fault(rt: HostRuntime) -> Result<(), Fail> {
             "more\n",
             "more\n",
             FileId::Energetics,
+            0,
             kind::NOT_BUILT,
         ),
         (
@@ -219,15 +305,16 @@ fn refuses_with_the_first_fault(rt: HostRuntime) -> Result<(), Fail> {
             ENERGETICS,
             "more\n",
             FileId::Mechanism,
+            0,
             kind::NOT_BUILT,
         ),
     ];
     let alloc = rt.alloc();
-    for (simulation, lattice, energetics, mechanism, file, kind) in CASES {
+    for (simulation, lattice, energetics, mechanism, file, line, kind) in CASES {
         let mut folder = folder(alloc, simulation, lattice, energetics, mechanism, 0, 0)?;
         assert_eq!(rt;
             run(&rt, alloc, "run", 1, &mut folder)?,
-            refused(file, 0, kind)
+            refused(file, line, kind)
         );
         assert!(rt; folder.output(OutId::Specnum).is_none());
     }
@@ -264,6 +351,24 @@ fn refuses_a_file_that_is_too_long(rt: HostRuntime) -> Result<(), Fail> {
     Ok(())
 }
 
+/// A lattice of four sites that have no neighbours.
+fn four_sites(alloc: Global) -> Result<Graph, Fail>
+    ensures { IfOk result IsLattice }
+{
+    let neighbours = vec![in alloc;
+        Vec::new(alloc),
+        Vec::new(alloc),
+        Vec::new(alloc),
+        Vec::new(alloc),
+    ]?;
+    let types = vec![in alloc; 0u16; 4]?;
+    let graph = Graph::new(types, neighbours).ok().ok_or("a fault")?;
+    if graph.len() != 4 {
+        return Err("not four sites")?;
+    }
+    Ok(graph)
+}
+
 #[test]
 fn drives_a_deck_to_its_last_event(rt: HostRuntime) -> Result<(), Fail> {
     let alloc = rt.alloc();
@@ -279,7 +384,7 @@ fn drives_a_deck_to_its_last_event(rt: HostRuntime) -> Result<(), Fail> {
     let surface = vec![in alloc; first, second]?;
     let deck = PlainDeck {
         temperature: 500_000,
-        sites: 4,
+        graph: four_sites(alloc)?,
         plan: Plan {
             seed: 1,
             max_steps: 10,

@@ -23,32 +23,8 @@ fn text_with(
     Ok(text)
 }
 
-const LATTICE: [&str; 3] = [
-    "lattice default_choice",
-    "rectangular_periodic 1 2 3",
-    "end_lattice",
-];
-
 #[test]
-fn lattice_and_energetics_files(rt: HostRuntime) -> Result<(), Fail> {
-    const CASES: [(usize, &str, Option<u32>); 12] = [
-        (3, "", Some(6)),
-        (1, "rectangular_periodic 1 256 256", Some(65_536)),
-        (1, "rectangular_periodic 1 02 2", Some(4)),
-        (1, "rectangular_periodic 1 1 2", None),
-        (1, "rectangular_periodic 1 2 257", None),
-        (1, "rectangular_periodic 2 2 2", None),
-        (1, "rectangular_periodic 1 2", None),
-        (1, "rectangular_periodic 1 2 2 2", None),
-        (1, "rectangular_periodic 1  2 2", None),
-        (1, "rectangular_periodic 1 2 2 ", None),
-        (0, "lattice explicit", None),
-        (2, "end_lattice\n\n", None),
-    ];
-    for (place, line, sites) in CASES {
-        let text = text_with(rt.alloc(), &LATTICE, place, line)?;
-        assert_eq!(rt; read_lattice(&text), sites);
-    }
+fn energetics_files(rt: HostRuntime) -> Result<(), Fail> {
     assert!(rt; is_energetics(b"energetics\nend_energetics\n"));
     assert!(rt; !is_energetics(b"energetics\nend_energetics"));
     assert!(rt; !is_energetics(b"energetics\n\nend_energetics\n"));

@@ -2,7 +2,8 @@ use Rattle.std.proofs.Common.{ℕ, List}
 use Rattle.std.proofs.lemmas.Result.{err_from_is_err_and}
 use Rattle.kmc_run.specs.PlainDecks.{deck_of}
 use Rattle.kmc_run.proofs.ReadLemmas.{reads_err}
-use Rattle.sim_deck.specs.Values.{values_at}
+use Rattle.lattice_deck.specs.Parts.{LatticeValues}
+use Rattle.sim_deck.specs.Values.{SimValues}
 use Rattle.kmc_run.proofs.joining.read_deck.Goals as goal
 
 pub returns-in_err-simulation-clause-value : goal.returns-in_err-simulation-clause-value
@@ -35,7 +36,7 @@ unfolding deck_of
 returns-in_err-part-clause-value c =
     let p = err_from_is_err_and c.from_residual-in_err-part.result c.from_residual-in_err-part.ensures.1 in
     rw (p.1, p.2, c.in_ok-simulation.ensures.bytes, c.in_ok-lattice.ensures.bytes, c.in_ok-energetics.ensures.bytes, c.in_ok-mechanism.ensures.bytes)
-    (reads_err (values_at c.in_ok-simulation.simulation.now) (λ deck. deck) c.in_err-part.field-0.0 _ _ c.in_err-part.ensures.values)
+    (reads_err (λ (values : SimValues × LatticeValues). values) (λ deck. deck) c.in_err-part.field-0.0 _ _ c.in_err-part.ensures.values)
 
 pub returns-clause-value : goal.returns-clause-value
 unfolding deck_of
