@@ -1,6 +1,4 @@
 ghost use Rattle.std.specs.Prelude.{◌≡◌, None};
-ghost use Rattle.kmc_base.specs.FaultCounts.{reads_of, writes_of};
-ghost use Rattle.kmc_base.specs.Faults.{Rose, NoneFell};
 
 use crate::transfer::{read_whole, write_whole};
 use kmc_base::{Failed, FaultCounts, FileId, Folder, LoadFault, OutId};
@@ -106,26 +104,6 @@ fn add_at_end<R: Files>(
     Ok(file)
 }
 
-/// The counts after one more fault of reading a file.
-fn after_read_fault(mut faults: FaultCounts, file: FileId) -> FaultCounts
-    ensures rose { Rose (reads_of faults file) (reads_of result file) }
-    ensures reads { NoneFell (reads_of faults) (reads_of result) }
-    ensures writes { result.writes ≡ faults.writes }
-{
-    faults.read_failed(file);
-    faults
-}
-
-/// The counts after one more fault of an output.
-fn after_write_fault(mut faults: FaultCounts, out: OutId) -> FaultCounts
-    ensures rose { Rose (writes_of faults out) (writes_of result out) }
-    ensures writes { NoneFell (writes_of faults) (writes_of result) }
-    ensures reads { result.reads ≡ faults.reads }
-{
-    faults.write_failed(out);
-    faults
-}
-
 impl<R: Files> DiskFolder<R> {
     /// The working directory of a runtime. Nothing of it has failed yet.
     pub fn new(runtime: R) -> Self
@@ -157,7 +135,7 @@ impl<R: Files> Folder for DiskFolder<R> {
     fn load(&mut self, alloc: Global, file: FileId, max: usize) -> Result<Vec<u8>, LoadFault> {
         let loaded = load_input(&self.runtime, alloc, name_of_input(file), max);
         if let Err(LoadFault::Failed) = &loaded {
-            self.faults = after_read_fault(self.faults, file);
+            self.faults.read_failed(file);
         }
         loaded
     }
@@ -170,7 +148,7 @@ impl<R: Files> Folder for DiskFolder<R> {
                 Ok(())
             }
             Err(_) => {
-                self.faults = after_write_fault(self.faults, out);
+                self.faults.write_failed(out);
                 Err(Failed)
             }
         }
@@ -184,7 +162,7 @@ impl<R: Files> Folder for DiskFolder<R> {
                 Ok(())
             }
             Err(Failed) => {
-                self.faults = after_write_fault(self.faults, out);
+                self.faults.write_failed(out);
                 Err(Failed)
             }
         }

@@ -1,5 +1,5 @@
 -- How often a file, an output or a screen has failed. A count stands in 64 bits, and stays at its end.
-use Rattle.std.specs.Prelude.{ℕ, ◌+◌, ◌-◌, ◌^◌, ◌≤◌, min}
+use Rattle.std.specs.Prelude.{◌≡◌, ◌≢◌, ℕ, ◌+◌, ◌-◌, ◌^◌, ◌≤◌, Option, None, Some, min}
 
 -- the count after one more fault
 abbrev pub one_more : ℕ → ℕ
@@ -9,6 +9,15 @@ one_more count = min (count + 1) (2 ^ 64 - 1)
 abbrev pub Rose : ℕ → ℕ → Type 0
 Rose before now = one_more before ≤ now
 
--- no count of these has fallen
-abbrev pub NoneFell : {K : Type 0} → (K → ℕ) → (K → ℕ) → Type 0
-NoneFell {K} before now = (k : K) → before k ≤ now k
+-- all counts of these are as before
+abbrev pub SameCounts : {K : Type 0} → (K → ℕ) → (K → ℕ) → Type 0
+SameCounts {K} before now = (k : K) → now k ≡ before k
+
+-- the counts of all but this one are as before
+abbrev pub SameCountsBut : {K : Type 0} → K → (K → ℕ) → (K → ℕ) → Type 0
+SameCountsBut {K} one before now = (k : K) → k ≢ one → now k ≡ before k
+
+-- Only this one has failed, if any has: its count has risen, and all others are as before.
+abbrev pub OnlyFailed : {K : Type 0} → Option K → (K → ℕ) → (K → ℕ) → Type 0
+OnlyFailed None before now = SameCounts before now
+OnlyFailed (Some one) before now = Rose (before one) (now one) × SameCountsBut one before now

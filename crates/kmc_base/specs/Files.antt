@@ -31,6 +31,14 @@ Loads file max (Err TooLong) = IsSomeAnd file (λ bytes. max < length bytes)
 Loads file max (Err Failed) = Unit {0}
 Loads file max (Err OutOfMemory) = Unit {0}
 
+-- what holds of a load unless it failed
+abbrev pub UnlessFailed : Result (Vec ℕ Global) LoadFault → Type 0 → Type 0
+UnlessFailed (Ok bytes) P = P
+UnlessFailed (Err Absent) P = P
+UnlessFailed (Err TooLong) P = P
+UnlessFailed (Err Failed) P = Unit {0}
+UnlessFailed (Err OutOfMemory) P = P
+
 -- there is no file
 abbrev pub no_files : Files
 no_files = record { simulation = None; lattice = None; energetics = None; mechanism = None; state = None }

@@ -15,6 +15,7 @@ pub struct FaultCounts {
 impl FaultCounts {
     ghost use Rattle.std.specs.Prelude.{replicate};
     ghost use Rattle.kmc_base.specs.FaultCounts.{read_failed, write_failed, reads_of, writes_of};
+    ghost use Rattle.kmc_base.specs.Faults.{Rose, SameCounts, SameCountsBut};
 
     /// No fault yet.
     pub fn none() -> Self
@@ -29,7 +30,10 @@ impl FaultCounts {
 
     /// Counts one more fault of reading a file.
     pub fn read_failed(&mut self, file: FileId)
-        ensures { self.new ≡ read_failed self.old file }
+        ensures left { self.new ≡ read_failed self.old file }
+        ensures rose { Rose (reads_of self.old file) (reads_of self.new file) }
+        ensures other_reads { SameCountsBut file (reads_of self.old) (reads_of self.new) }
+        ensures writes { SameCounts (writes_of self.old) (writes_of self.new) }
     {
         let place = file as usize;
         self.reads[place] = self.reads[place].saturating_add(1);
@@ -37,7 +41,10 @@ impl FaultCounts {
 
     /// Counts one more fault of an output.
     pub fn write_failed(&mut self, out: OutId)
-        ensures { self.new ≡ write_failed self.old out }
+        ensures left { self.new ≡ write_failed self.old out }
+        ensures rose { Rose (writes_of self.old out) (writes_of self.new out) }
+        ensures other_writes { SameCountsBut out (writes_of self.old) (writes_of self.new) }
+        ensures reads { SameCounts (reads_of self.old) (reads_of self.new) }
     {
         let place = out as usize;
         self.writes[place] = self.writes[place].saturating_add(1);

@@ -1,6 +1,6 @@
 ghost use Rattle.std.specs.Prelude.{◌≡◌, ℕ, ◌++◌, List, Option, OnOk, OnErr, IfSome, IsErrOf};
-ghost use Rattle.kmc_base.specs.Faults.{Rose, NoneFell};
-ghost use Rattle.kmc_base.specs.Files.{Files, Loads, file_of};
+ghost use Rattle.kmc_base.specs.Faults.{Rose, SameCounts, SameCountsBut};
+ghost use Rattle.kmc_base.specs.Files.{Files, Loads, UnlessFailed, file_of};
 ghost use Rattle.kmc_base.specs.Outs.{Outs, MayAppend, MayBegin, appended, begun};
 ghost use Rattle.kmc_base.specs.Told.{Tells};
 ghost use Rattle.kmc_base.specs.declared.ids.FileId.{FileId};
@@ -25,6 +25,8 @@ pub enum LoadFault {
 
 /// The folder that a run reads its deck from and writes its outputs to.
 ///
+/// A count of faults rises only in a call that answers `Failed`, and only that of its file or output.
+///
 /// What its files and outputs hold is told optionally: a real directory tells nothing.
 pub trait Folder {
     /// How often reading each file has failed.
@@ -43,8 +45,9 @@ pub trait Folder {
     fn load(&mut self, alloc: Global, file: FileId, max: usize) -> Result<Vec<u8>, LoadFault>
         ensures answer { IfSome (files self.old) (λ told. Loads (file_of told file) max result) }
         ensures cause { IsErrOf result LoadFault.Failed → Rose (read_faults self.old file) (read_faults self.new file) }
-        ensures read_counts { NoneFell (read_faults self.old) (read_faults self.new) }
-        ensures write_counts { NoneFell (write_faults self.old) (write_faults self.new) }
+        ensures no_fault { UnlessFailed result (SameCounts (read_faults self.old) (read_faults self.new)) }
+        ensures other_reads { SameCountsBut file (read_faults self.old) (read_faults self.new) }
+        ensures writes { SameCounts (write_faults self.old) (write_faults self.new) }
         ensures files { files self.new ≡ files self.old }
         ensures outs { outs self.new ≡ outs self.old };
 
@@ -53,8 +56,9 @@ pub trait Folder {
         ensures ok { OnOk result (Tells (outs self.old) (outs self.new) (λ then now. now ≡ begun out then)) }
         ensures err { OnErr result (Tells (outs self.old) (outs self.new) (MayBegin out)) }
         ensures cause { OnErr result (Rose (write_faults self.old out) (write_faults self.new out)) }
-        ensures read_counts { NoneFell (read_faults self.old) (read_faults self.new) }
-        ensures write_counts { NoneFell (write_faults self.old) (write_faults self.new) }
+        ensures no_fault { OnOk result (SameCounts (write_faults self.old) (write_faults self.new)) }
+        ensures other_writes { SameCountsBut out (write_faults self.old) (write_faults self.new) }
+        ensures reads { SameCounts (read_faults self.old) (read_faults self.new) }
         ensures files { files self.new ≡ files self.old };
 
     /// Adds a piece at the end of an output. An output that is not there counts as empty.
@@ -62,7 +66,8 @@ pub trait Folder {
         ensures ok { OnOk result (Tells (outs self.old) (outs self.new) (λ then now. now ≡ appended out piece.now then)) }
         ensures err { OnErr result (Tells (outs self.old) (outs self.new) (MayAppend out piece.now)) }
         ensures cause { OnErr result (Rose (write_faults self.old out) (write_faults self.new out)) }
-        ensures read_counts { NoneFell (read_faults self.old) (read_faults self.new) }
-        ensures write_counts { NoneFell (write_faults self.old) (write_faults self.new) }
+        ensures no_fault { OnOk result (SameCounts (write_faults self.old) (write_faults self.new)) }
+        ensures other_writes { SameCountsBut out (write_faults self.old) (write_faults self.new) }
+        ensures reads { SameCounts (read_faults self.old) (read_faults self.new) }
         ensures files { files self.new ≡ files self.old };
 }

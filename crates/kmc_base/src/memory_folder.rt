@@ -1,7 +1,7 @@
 ghost use Rattle.std.specs.Prelude.{◌≡◌, ◌↔◌, ℕ, max, IsErr, IsErrOf, IsTrue, IfOk, IfErr, OnOk, OnErr, Some, option_copied};
 ghost use Rattle.kmc_base.specs.FaultCounts.{reads_of, writes_of};
-ghost use Rattle.kmc_base.specs.Faults.{Rose, NoneFell};
-ghost use Rattle.kmc_base.specs.Files.{file_of, files_of, Loads};
+ghost use Rattle.kmc_base.specs.Faults.{Rose, SameCounts, SameCountsBut};
+ghost use Rattle.kmc_base.specs.Files.{file_of, files_of, Loads, UnlessFailed};
 ghost use Rattle.kmc_base.specs.InMemory.{after_load, after_begin, after_append, told_out};
 ghost use Rattle.kmc_base.specs.Numbered.{first_of, next_fails};
 ghost use Rattle.kmc_base.specs.Outs.{no_outs};
@@ -140,7 +140,8 @@ impl Folder for MemoryFolder {
         ensures fails { IsErrOf result LoadFault.Failed ↔ IsTrue (next_fails self.old.loads) }
         ensures answer { Loads (file_of self.old.files file) max result }
         ensures cause { IsErrOf result LoadFault.Failed → Rose (reads_of self.old.faults file) (reads_of self.new.faults file) }
-        ensures read_counts { NoneFell (reads_of self.old.faults) (reads_of self.new.faults) }
+        ensures no_fault { UnlessFailed result (SameCounts (reads_of self.old.faults) (reads_of self.new.faults)) }
+        ensures other_reads { SameCountsBut file (reads_of self.old.faults) (reads_of self.new.faults) }
     {
         if self.loads.next() {
             self.faults.read_failed(file);
@@ -160,7 +161,8 @@ impl Folder for MemoryFolder {
         ensures left { self.new ≡ after_begin out self.old }
         ensures fails { IsErr result ↔ IsTrue (next_fails self.old.begins) }
         ensures cause { OnErr result (Rose (writes_of self.old.faults out) (writes_of self.new.faults out)) }
-        ensures write_counts { NoneFell (writes_of self.old.faults) (writes_of self.new.faults) }
+        ensures no_fault { OnOk result (SameCounts (writes_of self.old.faults) (writes_of self.new.faults)) }
+        ensures other_writes { SameCountsBut out (writes_of self.old.faults) (writes_of self.new.faults) }
     {
         if self.begins.next() {
             self.faults.write_failed(out);
@@ -178,7 +180,8 @@ impl Folder for MemoryFolder {
         ensures left { self.new ≡ after_append out piece.now self.old }
         ensures fails { IsErr result ↔ IsTrue (next_fails self.old.appends) }
         ensures cause { OnErr result (Rose (writes_of self.old.faults out) (writes_of self.new.faults out)) }
-        ensures write_counts { NoneFell (writes_of self.old.faults) (writes_of self.new.faults) }
+        ensures no_fault { OnOk result (SameCounts (writes_of self.old.faults) (writes_of self.new.faults)) }
+        ensures other_writes { SameCountsBut out (writes_of self.old.faults) (writes_of self.new.faults) }
     {
         if self.appends.next() {
             self.faults.write_failed(out);

@@ -1,4 +1,4 @@
-ghost use Rattle.std.specs.Prelude.{◌≡◌, ℕ, ◌++◌, ◌≤◌, List, Option, OnOk, OnErr, take};
+ghost use Rattle.std.specs.Prelude.{◌≡◌, ℕ, ◌++◌, List, Option, OnOk, OnErr, take};
 ghost use Rattle.kmc_base.specs.Faults.{Rose};
 ghost use Rattle.kmc_base.specs.Told.{Tells};
 
@@ -21,5 +21,5 @@ pub trait Sink {
         // A front of the piece was taken.
         ensures err { OnErr result (Tells (taken self.old) (taken self.new) (λ then now. ((n : ℕ) × (now ≡ then ++ take n piece.now)))) }
         ensures cause { OnErr result (Rose (faults self.old) (faults self.new)) }
-        ensures counts { faults self.old ≤ faults self.new };
+        ensures no_fault { OnOk result (faults self.new ≡ faults self.old) };
 }

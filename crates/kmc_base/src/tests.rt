@@ -1,5 +1,5 @@
 use super::*;
-use std::alloc::{AllocError, AllocFailed};
+use std::alloc::{AllocError, AllocFailed, Global};
 use std::test::Fail;
 
 /// The bytes that are told, or a text that no test writes.
@@ -7,105 +7,126 @@ fn told(bytes: Option<&[u8]>) -> &[u8] {
     bytes.unwrap_or("not told".as_bytes())
 }
 
+/// A folder of three files, of which two have one id. Its loads of these numbers fail.
+fn folder_of_files(alloc: Global, failing: [u64; 2]) -> Result<MemoryFolder, Fail> {
+    let files = vec![in alloc;
+        (FileId::Lattice, Vec::from_slice(alloc, b"abc")?),
+        (FileId::State, Vec::from_slice(alloc, b"de")?),
+        (FileId::Lattice, Vec::from_slice(alloc, b"second")?),
+    ]?;
+    let loads = Vec::from_array(alloc, failing)?;
+    Ok(MemoryFolder::new(files, loads, Vec::new(alloc), Vec::new(alloc)))
+}
+
 #[test]
 fn folder_loads(rt: HostRuntime) -> Result<(), Fail> {
-    let alloc = rt.alloc();
-
     // Of two files with one id the first counts. The second load and the fifth fail.
-    let files = vec![in alloc;
-        (FileId::Lattice, "abc".as_bytes().to_vec(alloc)?),
-        (FileId::State, "de".as_bytes().to_vec(alloc)?),
-        (FileId::Lattice, "second".as_bytes().to_vec(alloc)?),
-    ]?;
-    let failing = vec![in alloc; 2, 5]?;
-    let mut folder = MemoryFolder::new(files, failing, Vec::new(alloc), Vec::new(alloc));
-    assert_eq!(rt;
-        folder.load(alloc, FileId::Lattice, 3)?.as_slice(),
-        "abc".as_bytes()
-    );
-    for (file, max, fault) in [
-        (FileId::Lattice, 3, LoadFault::Failed),
-        (FileId::Lattice, 2, LoadFault::TooLong),
-        (FileId::Mechanism, 9, LoadFault::Absent),
-        (FileId::Mechanism, 9, LoadFault::Failed),
-    ] {
-        assert_eq!(rt; folder.load(alloc, file, max), Err(fault));
+    const LOADS: [(FileId, usize, &str, Option<LoadFault>); 6] = [
+        (FileId::Lattice, 3, "abc", None),
+        (FileId::Lattice, 3, "no bytes", Some(LoadFault::Failed)),
+        (FileId::Lattice, 2, "no bytes", Some(LoadFault::TooLong)),
+        (FileId::Mechanism, 9, "no bytes", Some(LoadFault::Absent)),
+        (FileId::Mechanism, 9, "no bytes", Some(LoadFault::Failed)),
+        (FileId::State, 9, "de", None),
+    ];
+    let mut folder = folder_of_files(rt.alloc(), [2, 5])?;
+    for (file, max, text, fault) in LOADS {
+        match folder.load(rt.alloc(), file, max) {
+            Ok(bytes) => assert_eq!(rt; bytes.as_slice(), text.as_bytes()),
+            Err(answer) => assert_eq!(rt; Some(answer), fault),
+        }
     }
-    assert_eq!(rt;
-        folder.load(alloc, FileId::State, 9)?.as_slice(),
-        "de".as_bytes()
-    );
     Ok(())
+}
+
+/// A folder without files, with room for so many bytes of each output. Its second begin and its
+/// second append fail.
+fn folder_with_room(alloc: Global, bytes: usize) -> Result<MemoryFolder, Fail> {
+    let begins = Vec::from_array(alloc, [2])?;
+    let appends = Vec::from_array(alloc, [2])?;
+    let folder = MemoryFolder::new(Vec::new(alloc), Vec::new(alloc), begins, appends);
+    folder.with_room(bytes).map_err(|refused| refused.1.into())
+}
+
+/// Adds a piece to an output, or begins it where there is no piece.
+fn write(folder: &mut MemoryFolder, out: OutId, piece: Option<&str>) -> Result<(), Failed> {
+    match piece {
+        Some(piece) => folder.append(out, piece.as_bytes()),
+        None => folder.begin(out),
+    }
 }
 
 #[test]
 fn folder_writes(rt: HostRuntime) -> Result<(), Fail> {
-    let alloc = rt.alloc();
-
-    // The second begin and the second append fail. Each output has room for six bytes.
-    let begins = vec![in alloc; 2]?;
-    let appends = vec![in alloc; 2]?;
-    let made = MemoryFolder::new(Vec::new(alloc), Vec::new(alloc), begins, appends);
-    let mut folder = made.with_room(6).map_err(|refused| refused.1)?;
+    // What is added, or None for a begin; whether it is done; the output after it. Past its room
+    // the folder stops telling, for good.
+    const WRITES: [(OutId, Option<&str>, bool, &str); 9] = [
+        (OutId::History, None, true, ""),
+        (OutId::History, Some("abc"), true, "abc"),
+        (OutId::History, Some("x"), false, "abc"),
+        (OutId::History, None, false, "abc"),
+        (OutId::Specnum, Some("de"), true, "de"),
+        (OutId::History, Some("def"), true, "abcdef"),
+        (OutId::History, Some("g"), true, "not told"),
+        (OutId::History, None, true, "not told"),
+        (OutId::Specnum, Some(""), true, "not told"),
+    ];
+    let mut folder = folder_with_room(rt.alloc(), 6)?;
     assert!(rt; folder.output(OutId::History).is_none());
-    assert_eq!(rt; folder.begin(OutId::History), Ok(()));
-    assert_eq!(rt; told(folder.output(OutId::History)), "".as_bytes());
-    assert_eq!(rt; folder.append(OutId::History, b"abc"), Ok(()));
-    assert_eq!(rt; folder.append(OutId::History, b"x"), Err(Failed));
-    assert_eq!(rt; folder.begin(OutId::History), Err(Failed));
-    assert_eq!(rt; told(folder.output(OutId::History)), "abc".as_bytes());
-    assert_eq!(rt; folder.append(OutId::Specnum, b"de"), Ok(()));
-    assert_eq!(rt; told(folder.output(OutId::Specnum)), "de".as_bytes());
-    assert!(rt; folder.output(OutId::Procstat).is_none());
-    assert_eq!(rt; folder.append(OutId::History, b"def"), Ok(()));
-    assert_eq!(rt; told(folder.output(OutId::History)), "abcdef".as_bytes());
-
-    // Past its room it stops telling, for good.
-    assert_eq!(rt; folder.append(OutId::History, b"g"), Ok(()));
-    assert_eq!(rt; folder.begin(OutId::History), Ok(()));
-    assert!(rt; folder.output(OutId::History).is_none());
-    assert!(rt; folder.output(OutId::Specnum).is_none());
+    for (out, piece, done, text) in WRITES {
+        assert_eq!(rt; write(&mut folder, out, piece).is_ok(), done);
+        assert_eq!(rt; told(folder.output(out)), text.as_bytes());
+    }
     Ok(())
 }
 
 #[test]
 fn sink_takes(rt: HostRuntime) -> Result<(), Fail> {
-    let alloc = rt.alloc();
-    let failing = vec![in alloc; 2]?;
-    let mut sink = MemorySink::new(alloc, 4, failing).map_err(|refused| refused.1)?;
-    assert_eq!(rt; told(sink.text()), "".as_bytes());
-    assert_eq!(rt; sink.put(b"ab"), Ok(()));
-    assert_eq!(rt; sink.put(b"x"), Err(Failed));
-    assert_eq!(rt; told(sink.text()), "ab".as_bytes());
-    assert_eq!(rt; sink.put(b"cd"), Ok(()));
-    assert_eq!(rt; told(sink.text()), "abcd".as_bytes());
-    assert_eq!(rt; sink.put(b"e"), Ok(()));
-    assert!(rt; sink.text().is_none());
+    // The second put fails. Past its room it stops telling.
+    const PUTS: [(&str, bool, &str); 4] = [
+        ("ab", true, "ab"),
+        ("x", false, "ab"),
+        ("cd", true, "abcd"),
+        ("e", true, "not told"),
+    ];
+    let failing = Vec::from_array(rt.alloc(), [2])?;
+    let mut sink = MemorySink::new(rt.alloc(), 4, failing).map_err(|refused| refused.1)?;
+    for (piece, done, text) in PUTS {
+        assert_eq!(rt; sink.put(piece.as_bytes()).is_ok(), done);
+        assert_eq!(rt; told(sink.text()), text.as_bytes());
+    }
     Ok(())
 }
 
 #[test]
-fn small_parts(rt: HostRuntime) -> Result<(), Fail> {
-    let alloc = rt.alloc();
+fn counts_faults(rt: HostRuntime) {
     let mut counts = FaultCounts::none();
     counts.read_failed(FileId::Lattice);
     counts.write_failed(OutId::Specnum);
     assert_eq!(rt; counts.reads, [0, 1, 0, 0, 0]);
     assert_eq!(rt; counts.writes, [0, 0, 1]);
+}
 
-    let items = Items::new(vec![in alloc; 7, 8]?);
-    assert_eq!(rt; items.as_slice(), [7, 8].as_slice());
+#[test]
+fn items_keep_their_order(rt: HostRuntime) -> Result<(), Fail> {
+    let items = Items::new(Vec::from_array(rt.alloc(), [7, 8])?);
     assert_eq!(rt; (items.len(), items.is_empty()), (2, false));
+    assert_eq!(rt; items.as_slice(), [7, 8].as_slice());
     assert_eq!(rt; items.into_vec().as_slice(), [7, 8].as_slice());
+    Ok(())
+}
 
+#[test]
+fn an_open_gate_holds_nobody(_rt: HostRuntime) {
     OpenGate.after_claim(0, 1);
     OpenGate.after_put(0, 1);
+}
 
+#[test]
+fn errors_have_a_text(rt: HostRuntime) -> Result<(), Fail> {
     let refused = OutOfMemory::from(AllocFailed { value: 3u8 });
     assert_eq!(rt; refused, OutOfMemory::from(AllocError));
-    assert_eq!(rt;
-        format!(in alloc; "{refused}, {}", Failed)?.as_str(),
-        "out of memory, failed"
-    );
+    let text = format!(in rt.alloc(); "{refused}, {}", Failed)?;
+    assert_eq!(rt; text.as_str(), "out of memory, failed");
     Ok(())
 }
