@@ -31,10 +31,11 @@ module _ {S K : Type 0} where
   abbrev pub found_words : Seat S (View K) → List ℕ
   found_words seat = seat.me.0.found
 
-  -- it shows the turn, or shows none
+  -- it has the turn
   abbrev pub HasTurn : Seat S (View K) → Type 0
   HasTurn seat = seat.me.0.holds ≡ true
 
+  -- it has not the turn
   abbrev pub IsIdle : Seat S (View K) → Type 0
   IsIdle seat = seat.me.0.holds ≡ false
 
@@ -52,7 +53,7 @@ module _ {S K : Type 0} where
     pub found_claimed : seat.me.0.seen ≡ 0
     pub puts : seat.me.0.puts ≡ 0
     pub found_words : seat.me.0.found ≡ []
-    pub idle : seat.me.0.holds ≡ false
+    pub idle : IsIdle seat
 
   -- the owner of a new board: it has claimed, put and joined nothing
   pub record IsOpening (seat : Seat S (View K)) : Type 0 where
@@ -83,7 +84,7 @@ module _ {S K : Type 0} where
 
   -- this pass took the turn, when it was as the second shows
   pub record IsTaker (seat taker : Seat S (View K)) : Type 0 where
-    pub holds : seat.me.0.holds ≡ true
+    pub holds : HasTurn seat
     pub number : seat.me.0.number ≡ taker.me.0.number
     pub known : seat.me.0.known ≡ taker.me.0.known
     pub claims : seat.me.0.backing ≡ taker.me.0.claims
@@ -104,7 +105,7 @@ module _ {S K : Type 0} where
     pub last : Finds old seen
     pub grows : Within (mask was) (mask seen)
     pub puts : new.me.0.puts ≡ old.me.0.puts
-    pub idle : new.me.0.holds ≡ false
+    pub idle : IsIdle new
 
   -- the turn was taken: the word was found twice, with no holder
   pub record FoundTwice (old new : Seat S (View K)) (word : ℕ) : Type 0 where
@@ -115,6 +116,6 @@ module _ {S K : Type 0} where
   -- the pass has taken the turn, and is shown by it. It found the done mask twice
   pub record IsTaking (old new shown : Seat S (View K)) : Type 0 where
     pub taker : shown ≡ new
-    pub holds : new.me.0.holds ≡ true
+    pub holds : HasTurn new
     pub backing : new.me.0.backing ≡ old.me.0.claims
     pub found : FoundTwice old new new.me.0.known

@@ -1,4 +1,5 @@
--- What a pass and the owner know, and how each kind of step changes it.
+-- What a pass and the owner know, and how each kind of step changes it. The split and the join are the statements of
+-- their types in src/rule.rt; the other changes are said of their steps in Plays.
 use Rattle.std.specs.Prelude.{ℕ, ◌+◌, [], ◌∷◌, ◌++◌, true, false, Some, None, bit_and, bit_or}
 use Rattle.board_turn.specs.Masks.{mask}
 use Rattle.board_turn.specs.declared.view.View.{View}

@@ -100,6 +100,17 @@ fn scales_decimals(rt: HostRuntime) -> Result<(), Fail> {
     Ok(())
 }
 
+#[test]
+fn faults_in_words(rt: HostRuntime) -> Result<(), Fail> {
+    use DecimalFault::{Form, Power};
+    let text = format!(in rt.alloc(); "{Form}; {Power}; {NotWhole}; {OutOfRange}")?;
+    assert_eq!(rt;
+        text.as_str(),
+        "not a decimal number; power outside -400 to 400; not a whole number; out of range"
+    );
+    Ok(())
+}
+
 /// What is printed after two bytes that were there.
 fn printed(rt: &HostRuntime, value: i128, decimals: u32) -> Result<Vec<u8>, Fail>
     requires some { 1 ≤ decimals }

@@ -220,3 +220,19 @@ fn too_many_neighbours(rt: HostRuntime) -> Result<(), Fail> {
     );
     Ok(())
 }
+
+#[test]
+fn faults_in_words(rt: HostRuntime) -> Result<(), Fail> {
+    use GraphFault::*;
+    let cases = [
+        (BadSite(3), "site 3 lists a number that is no site"),
+        (SelfNeighbour(3), "site 3 is its own neighbour"),
+        (TooMany(3), "site 3 has too many neighbours"),
+        (OneSided(3, 5), "site 3 lists 5, which does not list it"),
+        (OutOfMemory, "out of memory"),
+    ];
+    for (fault, words) in cases {
+        assert_eq!(rt; format!(in rt.alloc(); "{fault}")?.as_str(), words);
+    }
+    Ok(())
+}
