@@ -5,7 +5,7 @@ use Rattle.dec_text.specs.Lines.{WordLine}
 use Rattle.deck_shape.specs.LineFaults.{closes_file, fault_at, read_below}
 use Rattle.deck_shape.specs.Reading.{SoFar, after_line, read_after}
 
-read_after-last : (first : SoFar) (above : List WordLine) (line : WordLine) → read_after first (above ++ line ∷ []) ≡ after_line line (read_after first above)
+pub read_after-last : (first : SoFar) (above : List WordLine) (line : WordLine) → read_after first (above ++ line ∷ []) ≡ after_line line (read_after first above)
 read_after-last first [] line = refl
 read_after-last first (x ∷ above) line = read_after-last (after_line x first) above line
 

@@ -4,6 +4,7 @@ mod Least
 mod LineCounts
 mod Maps
 mod Powers
+mod Repeats
 mod Rows
-pub mod ShapeFacts
+mod ShapeFacts
 mod Words

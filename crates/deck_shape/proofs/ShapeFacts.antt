@@ -1,27 +1,25 @@
 -- The block of a lattice file that is read without faults of form.
-use Rattle.std.proofs.Common.{◌≡◌, ℕ, ◌&&◌, Bool, true, false, List, [], ◌∷◌, ◌++◌, length, Option, None, Some, Result, Ok, Err, map, IfSome, is_some, unwrap_or, if◌then◌else◌, inl, inr, ap, sym, subst, ◌∙◌, refl, codes}
+use Rattle.std.proofs.Common.{◌≡◌, ℕ, ◌&&◌, Bool, true, false, List, [], ◌∷◌, ◌++◌, length, Option, None, Some, Result, Ok, Err, IfSome, is_some, unwrap_or, if◌then◌else◌, inl, inr, ap, sym, subst, ◌∙◌, refl, codes}
 use Rattle.std.specs.List.{AllByRecursion, list_any}
 use Rattle.std.specs.Option.{option_map_or}
 use Rattle.std.proofs.lemmas.Bool.{cases_Bool, false≢true, not-false}
 use Rattle.dec_text.specs.Lines.{WordLine, word_lines}
 use Rattle.kmc_base.specs.declared.ids.FileId.TheVariants.{Lattice}
-use Rattle.deck_shape.specs.Blocks.{BlockLines, ItemLines, block_at, with_row}
-use Rattle.deck_shape.specs.LineFaults.{closes, closes_file, fault_at, first_kind, has_other_count, is_missing, is_repeated, is_stray_row, is_unknown, is_unsupported, line_count, misses_word, names_no_lattice, read_below, rule_faults}
+use Rattle.deck_shape.specs.Blocks.{BlockLines, ItemLines, with_row}
+use Rattle.deck_shape.specs.LineFaults.{block_of_text, closes, closes_file, fault_at, first_kind, has_other_count, is_missing, is_repeated, is_stray_row, is_unknown, is_unsupported, line_count, misses_word, names_no_lattice, read_below, rule_faults}
 use Rattle.deck_shape.specs.LineWords.{arguments_of, head_of, is_row}
-use Rattle.deck_shape.specs.Reading.{SoFar, after_line, after_row, after_word, argument_of, block_of, lattice_block, nothing_read, read_after, rule_at}
+use Rattle.deck_shape.specs.Reading.{SoFar, after_line, after_row, after_word, argument_of, block_of, first_block, lattice_block, nothing_read, read_after, rule_at}
 use Rattle.deck_shape.specs.Tables.{allows, is_spelled, rule_for, rules_of, same_word}
 use Rattle.deck_shape.specs.declared.kind.TheConstants.{ARGUMENT_COUNT, MISSING_WORD, REPEATED_WORD, STRAY_ROW, UNKNOWN_LATTICE, UNKNOWN_WORD, UNSUPPORTED_WORD}
 use Rattle.deck_shape.specs.declared.reading.Below.{Below}
 use Rattle.deck_shape.specs.declared.reading.Below.TheVariants.{Words, Rows, Enclosed}
-use Rattle.deck_shape.specs.Shapes.{IsShapeOf}
-use Rattle.deck_shape.specs.declared.shape.Block.{Block}
-use Rattle.deck_shape.specs.declared.shape.Shape.{Shape}
 use Rattle.deck_shape.specs.declared.table.BlockKind.{BlockKind}
 use Rattle.deck_shape.specs.declared.table.BlockKind.TheVariants.{Simulation, LatticeFile, DefaultChoice, PeriodicCell, Explicit, NeighboringStructure, LatticeStructure}
 use Rattle.deck_shape.specs.declared.table.Role.{Role}
 use Rattle.deck_shape.specs.declared.table.Role.TheVariants.{Value, Rows as HasRows, Encloses, BeginsLattice, Closes, Unsupported}
 use Rattle.deck_shape.specs.declared.table.Rule.{Rule}
 use Rattle.deck_shape.specs.WholeBlocks.{IsKnown, IsLatticeKind, IsWhole}
+use Rattle.deck_shape.proofs.Below.{read_after-last}
 use Rattle.deck_shape.proofs.Maps.{IfSome-find}
 
 -- the block of a lattice file, opened or not
@@ -195,10 +193,6 @@ module _ (block : BlockLines) (line : WordLine) (end : ℕ) where
   closed Rows read none closing = close_by Rows refl read none (rule_at (record { block = block; below = Rows }) line) refl closing
   closed (Enclosed rows) read none closing = absurd (false≢true closing)
 
-read_after-last : (first : SoFar) (above : List WordLine) (line : WordLine) → read_after first (above ++ line ∷ []) ≡ after_line line (read_after first above)
-read_after-last first [] line = refl
-read_after-last first (x ∷ above) line = read_after-last (after_line x first) above line
-
 no_fault : (fault : Option ℕ) → is_some fault ≡ false → fault ≡ None
 no_fault None is = refl
 no_fault (Some k) is = cc
@@ -226,14 +220,7 @@ nothing : IsRead (nothing_read LatticeFile)
 nothing = record { kind = tt; known = tt; below = tt }
 
 -- the block of a lattice file is whole
-pub whole_block : (lines : List WordLine) (count : ℕ) (block : BlockLines) → read_below (nothing_read LatticeFile) [] lines count ≡ Ok block → IsWhole block
-whole_block lines count block is = read_whole (nothing_read LatticeFile) [] lines count block nothing is
-
--- so is the one block of a shape
-pub whole_shape : (text : List ℕ) (shape : Shape) → IsShapeOf Lattice text shape → (block : Block) → shape.blocks ≡ block ∷ [] → IsWhole (block_at text block)
-whole_shape text shape is block one =
-    let kind : is.kind ≡ LatticeFile = (let e : Some is.kind ≡ Some LatticeFile = sym is.begins in cc) in
-    let blocks : block_at text block ∷ [] ≡ is.block ∷ [] = sym (ap (map (block_at text)) one) ∙ is.one in
-    let same : is.block ≡ block_at text block = cc in
-    let read : read_below (nothing_read LatticeFile) [] (word_lines text) (line_count text) ≡ Ok is.block = ap (λ k. read_below (nothing_read k) [] (word_lines text) (line_count text)) (sym kind) ∙ is.read in
-    subst IsWhole same (whole_block (word_lines text) (line_count text) is.block read)
+pub whole_block : (kind : BlockKind) (text : List ℕ) (block : BlockLines) → first_block Lattice ≡ Some kind → block_of_text kind text ≡ Ok block → IsWhole block
+whole_block kind text block begins is =
+    let first : kind ≡ LatticeFile = (let e : Some kind ≡ Some LatticeFile = sym begins in cc) in
+    read_whole (nothing_read LatticeFile) [] (word_lines text) (line_count text) block nothing (ap (λ k. block_of_text k text) (sym first) ∙ is)

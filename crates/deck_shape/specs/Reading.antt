@@ -1,4 +1,4 @@
--- What is read some lines of a file: its block as far as it is read, and what may stand on the next line.
+-- What is read by some lines of a file: its block as far as it is read, and what may stand on the next line.
 use Rattle.std.specs.Prelude.{ℕ, List, [], ◌∷◌, ◌++◌, Option, None, Some, codes, if◌then◌else◌, unwrap_or}
 use Rattle.std.specs.Option.{option_map_or}
 use Rattle.dec_text.specs.Lines.{WordLine, run}

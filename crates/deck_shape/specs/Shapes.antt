@@ -1,21 +1,24 @@
 -- The shape of a file, and what reading it may answer.
 use Rattle.std.specs.Prelude.{◌≡◌, ℕ, List, [], ◌∷◌, map, Some, Result, Ok, Err}
 use Rattle.kmc_base.specs.declared.ids.FileId.{FileId}
+use Rattle.kmc_base.specs.declared.ids.FileId.TheVariants.{Lattice}
 use Rattle.deck_shape.specs.Blocks.{BlockLines, block_at}
 use Rattle.deck_shape.specs.LineFaults.{block_of_text}
 use Rattle.deck_shape.specs.Reading.{first_block}
+use Rattle.deck_shape.specs.WholeBlocks.{IsWhole}
 use Rattle.deck_shape.specs.declared.fault.DeckFault.{DeckFault}
 use Rattle.deck_shape.specs.declared.fault.DeckFault.TheVariants.{Fault as Faulty, OutOfMemory}
 use Rattle.deck_shape.specs.declared.shape.Shape.{Shape}
 use Rattle.deck_shape.specs.declared.table.BlockKind.{BlockKind}
 
--- the shape of a text of a file: it has one block, that of the text
+-- the shape of a text of a file: it has one block, that of the text, which is whole in a lattice file
 pub record IsShapeOf (file : FileId) (text : List ℕ) (shape : Shape) : Type 0 where
   pub kind : BlockKind
   pub begins : first_block file ≡ Some kind
   pub block : BlockLines
   pub one : map (block_at text) shape.blocks ≡ block ∷ []
   pub read : block_of_text kind text ≡ Ok block
+  pub whole : file ≡ Lattice → IsWhole block
 
 -- What is not read has this fault: it is the file's, at the line and of the kind that some reading of the file gives.
 abbrev pub IsFaultOf : {X : Type 0} → FileId → Result X (ℕ × ℕ) → DeckFault → Type 0

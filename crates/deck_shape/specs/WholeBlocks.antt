@@ -25,7 +25,7 @@ pub record IsKnown (kind : BlockKind) (item : ItemLines) : Type 0 where
   pub has_rule : rule_for kind (head_of item.line) ≡ Some rule
   pub is_allowed : allows rule.arguments (length (arguments_of item.line)) ≡ true
 
--- a block without faults of form
+-- a block of a lattice file that misses no word, and whose words have as many arguments as they take
 pub record IsWhole (block : BlockLines) : Type 0 where
   pub kind : IsLatticeKind block.kind
   pub known : AllByRecursion (IsKnown block.kind) block.items

@@ -1,10 +1,11 @@
-ghost use Rattle.std.specs.Prelude.{◌≡◌, length, map};
-ghost use Rattle.std.specs.List.{list_any};
+ghost use Rattle.std.specs.Prelude.{◌≡◌, IfOk, map};
 ghost use Rattle.dec_text.specs.Spans.{bytes_at};
 ghost use Rattle.deck_shape.specs.Lists.{fault_if, has_other_length, names_repeat};
-ghost use Rattle.deck_shape.specs.Tables.{same_word};
 
 use dec_text::Span;
+use kmc_base::OutOfMemory;
+use std::alloc::Global;
+use std::collections::BTreeSet;
 
 /// A fault, where it holds.
 pub fn fault_if(holds: bool, kind: u8) -> Option<u8>
@@ -23,25 +24,15 @@ pub fn has_other_length(count: Option<u64>, members: usize) -> bool
     }
 }
 
-/// A word stands among others.
-fn stands_among(bytes: &[u8], word: Span, words: &[Span]) -> bool
-    ensures { result ≡ list_any (same_word (bytes_at bytes.now word)) (map (bytes_at bytes.now) words.now) }
-{
-    words
-        .iter()
-        .any(|other| word.bytes(bytes) == other.bytes(bytes))
-}
-
 /// A name stands twice in a list.
-pub fn names_repeat(bytes: &[u8], names: &[Span]) -> bool
-    ensures { result ≡ names_repeat (map (bytes_at bytes.now) names.now) }
+pub fn names_repeat(alloc: Global, bytes: &[u8], names: &[Span]) -> Result<bool, OutOfMemory>
+    ensures { IfOk result (λ repeat. repeat ≡ names_repeat (map (bytes_at bytes.now) names.now)) }
 {
-    let mut rest = names;
-    while let [name, others @ ..] = rest {
-        if stands_among(bytes, *name, others) {
-            return true;
+    let mut seen = BTreeSet::new(alloc);
+    for name in names {
+        if !seen.insert(name.bytes(bytes))? {
+            return Ok(true);
         }
-        rest = others;
     }
-    false
+    Ok(false)
 }

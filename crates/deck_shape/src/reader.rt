@@ -1,8 +1,8 @@
-ghost use Rattle.std.specs.Prelude.{◌≡◌, ◌+◌, ◌-◌, ◌^◌, ◌<◌, ◌≤◌, ℕ, List, [], IfOk, IfErr, IsSome, length, Ok, count_by};
+ghost use Rattle.std.specs.Prelude.{◌≡◌, ◌-◌, ◌^◌, ◌<◌, ◌≤◌, IfOk, IfErr, IsSome, length, Ok, count_by};
 ghost use Rattle.dec_text.specs.Bytes.{is_line_feed};
 ghost use Rattle.dec_text.specs.Spans.{line_at};
 ghost use Rattle.deck_shape.specs.Blocks.{block_at};
-ghost use Rattle.deck_shape.specs.LineFaults.{block_of_text, fault_at, closes_file, line_count, read_below};
+ghost use Rattle.deck_shape.specs.LineFaults.{block_of_text, line_count};
 ghost use Rattle.deck_shape.specs.Reading.{after_line, first_block};
 ghost use Rattle.deck_shape.specs.Shapes.{IsFaultOf, IsShapeOf};
 ghost use Rattle.deck_shape.specs.Views.{reading_at};

@@ -151,18 +151,25 @@ fn words_of_numbers(rt: HostRuntime) {
 }
 
 #[test]
-fn words_of_lists(rt: HostRuntime) {
+fn words_of_lists(rt: HostRuntime) -> Result<(), Fail> {
     let text = b"A 9 A";
     let spans = [
         Span { start: 0, end: 1 },
         Span { start: 2, end: 3 },
         Span { start: 4, end: 5 },
     ];
-    assert!(rt; names_repeat(text, &spans));
+    for (names, repeat) in [
+        (spans.as_slice(), true),
+        (&spans[1..], false),
+        (&spans[..0], false),
+    ] {
+        assert_eq!(rt; names_repeat(rt.alloc(), text, names)?, repeat);
+    }
     assert_eq!(rt;
         numbers_kind(Number::Whole(1, 8), text, &spans),
         Some(kind::NOT_WHOLE)
     );
     let other_length = has_other_length(Some(2), spans.len());
     assert_eq!(rt; fault_if(other_length, kind::LIST_LENGTH), Some(15));
+    Ok(())
 }

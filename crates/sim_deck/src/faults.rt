@@ -1,8 +1,10 @@
-ghost use Rattle.std.specs.Prelude.{◌≡◌, ℕ, List, IfSome, None, map};
+ghost use Rattle.std.specs.Prelude.{◌≡◌, ℕ, List, IfOk, IfSome, None, length, map};
 ghost use Rattle.std.specs.List.{find, list_any};
 ghost use Rattle.std.specs.Option.{option_copied, option_map};
 ghost use Rattle.dec_text.specs.Spans.{bytes_at};
 ghost use Rattle.deck_shape.specs.Blocks.{block_at, item_at, stands};
+ghost use Rattle.deck_shape.specs.Lists.{fault_if, has_other_length};
+ghost use Rattle.deck_shape.specs.Numbers.{IsNumber, lesser, numbers_kind};
 ghost use Rattle.deck_shape.specs.Tables.{is_spelled};
 ghost use Rattle.sim_deck.specs.declared.forms.TheConstants.{FORMS as ENTRIES, NEEDED_LISTS as LISTS};
 ghost use Rattle.sim_deck.specs.Faults.{closing_kind, count_in, counts_in, fault_among, first_fault, form_kind, form_of, is_absent, is_infinity, item_kind, sound_count, words_behind, words_of};
@@ -15,8 +17,10 @@ use crate::samplings::sampling_kind;
 use dec_text::Span;
 use deck_shape::kind::LIST_LENGTH;
 use deck_shape::{
-    Block, Item, Keyword, fault_if, has_other_length, lesser, numbers_kind, whole_value,
+    Block, Item, Keyword, Number, fault_if, has_other_length, lesser, numbers_kind, whole_value,
 };
+use kmc_base::OutOfMemory;
+use std::alloc::Global;
 
 /// The words behind the keyword of a line.
 fn words_of(item: &Item) -> &[Span]
@@ -67,34 +71,52 @@ fn form_of(word: &[u8]) -> Option<Form>
     }
 }
 
+/// The fault of a list of numbers.
+fn list_kind(number: Number, count: Option<u64>, bytes: &[u8], words: &[Span]) -> Option<u8>
+    requires { IsNumber number }
+    ensures { result ≡ lesser (numbers_kind number (map (bytes_at bytes.now) words.now)) (fault_if (has_other_length count (length words.now)) LIST_LENGTH) }
+{
+    lesser(
+        numbers_kind(number, bytes, words),
+        fault_if(has_other_length(count, words.len()), LIST_LENGTH),
+    )
+}
+
 /// The fault of the words behind a keyword of this form.
-fn form_kind(counts: &Counts, form: Form, bytes: &[u8], words: &[Span]) -> Option<u8>
+fn form_kind(
+    alloc: Global,
+    counts: &Counts,
+    form: Form,
+    bytes: &[u8],
+    words: &[Span],
+) -> Result<Option<u8>, OutOfMemory>
     requires { IsForm form }
-    ensures { result ≡ form_kind (counts_at counts.now) form (map (bytes_at bytes.now) words.now) }
+    ensures { IfOk result (λ kind. kind ≡ form_kind (counts_at counts.now) form (map (bytes_at bytes.now) words.now)) }
 {
     match form {
-        Form::Number(number) => numbers_kind(number, bytes, words),
-        Form::NumberOrInfinity(_) if is_infinity(bytes, words) => None,
-        Form::NumberOrInfinity(number) => numbers_kind(number, bytes, words),
-        Form::Numbers(number, count) => {
-            let length = has_other_length(counts.of(count), words.len());
-            lesser(
-                numbers_kind(number, bytes, words),
-                fault_if(length, LIST_LENGTH),
-            )
-        }
-        Form::Names(count) => names_kind(counts.of(count), bytes, words),
-        Form::Sampling => sampling_kind(bytes, words),
-        Form::Free => None,
+        Form::Number(number) => Ok(numbers_kind(number, bytes, words)),
+        Form::NumberOrInfinity(_) if is_infinity(bytes, words) => Ok(None),
+        Form::NumberOrInfinity(number) => Ok(numbers_kind(number, bytes, words)),
+        Form::Numbers(number, count) => Ok(list_kind(number, counts.of(count), bytes, words)),
+        Form::Names(count) => names_kind(alloc, counts.of(count), bytes, words),
+        Form::Sampling => Ok(sampling_kind(bytes, words)),
+        Form::Free => Ok(None),
     }
 }
 
 /// The fault of a line.
-fn item_kind(counts: &Counts, bytes: &[u8], item: &Item) -> Option<u8>
-    ensures { result ≡ item_kind (counts_at counts.now) (item_at bytes.now item.now) }
+fn item_kind(
+    alloc: Global,
+    counts: &Counts,
+    bytes: &[u8],
+    item: &Item,
+) -> Result<Option<u8>, OutOfMemory>
+    ensures { IfOk result (λ kind. kind ≡ item_kind (counts_at counts.now) (item_at bytes.now item.now)) }
 {
-    let form = form_of(item.head(bytes))?;
-    form_kind(counts, form, bytes, words_of(item))
+    match form_of(item.head(bytes)) {
+        Some(form) => form_kind(alloc, counts, form, bytes, words_of(item)),
+        None => Ok(None),
+    }
 }
 
 /// A keyword stands in the file.
@@ -161,15 +183,20 @@ fn counts_in(block: &Block, bytes: &[u8]) -> Counts
 }
 
 /// The first fault of the word lines: its line and its kind.
-fn fault_among(counts: &Counts, bytes: &[u8], items: &[Item]) -> Option<(u32, u8)>
-    ensures { result ≡ fault_among (counts_at counts.now) (map (item_at bytes.now) items.now) None }
+fn fault_among(
+    alloc: Global,
+    counts: &Counts,
+    bytes: &[u8],
+    items: &[Item],
+) -> Result<Option<(u32, u8)>, OutOfMemory>
+    ensures { IfOk result (λ fault. fault ≡ fault_among (counts_at counts.now) (map (item_at bytes.now) items.now) None) }
 {
     for item in items {
-        if let Some(kind) = item_kind(counts, bytes, item) {
-            return Some((item.line.number, kind));
+        if let Some(kind) = item_kind(alloc, counts, bytes, item)? {
+            return Ok(Some((item.line.number, kind)));
         }
     }
-    None
+    Ok(None)
 }
 
 /// The closing line and its fault.
@@ -183,12 +210,16 @@ fn closing_fault(counts: &Counts, block: &Block, bytes: &[u8]) -> Option<(u32, u
 }
 
 /// The first fault of the values of a simulation file: its line and its kind.
-pub(crate) fn first_fault(block: &Block, bytes: &[u8]) -> Option<(u32, u8)>
-    ensures { result ≡ first_fault (block_at bytes.now block.now) }
+pub(crate) fn first_fault(
+    alloc: Global,
+    block: &Block,
+    bytes: &[u8],
+) -> Result<Option<(u32, u8)>, OutOfMemory>
+    ensures { IfOk result (λ fault. fault ≡ first_fault (block_at bytes.now block.now)) }
 {
     let counts = counts_in(block, bytes);
-    match fault_among(&counts, bytes, block.items.as_slice()) {
-        Some(fault) => Some(fault),
-        None => closing_fault(&counts, block, bytes),
+    match fault_among(alloc, &counts, bytes, block.items.as_slice())? {
+        Some(fault) => Ok(Some(fault)),
+        None => Ok(closing_fault(&counts, block, bytes)),
     }
 }

@@ -1,8 +1,6 @@
-ghost use Rattle.std.specs.Prelude.{◌≡◌, length, map};
+ghost use Rattle.std.specs.Prelude.{◌≡◌, IfOk, map};
 ghost use Rattle.std.specs.List.{list_any};
 ghost use Rattle.dec_text.specs.Spans.{bytes_at};
-ghost use Rattle.deck_shape.specs.Tables.{same_word};
-ghost use Rattle.deck_shape.specs.Lists.{fault_if, has_other_length, names_repeat};
 ghost use Rattle.sim_deck.specs.Lists.{count_of, has_members, is_bad_name, names_kind};
 ghost use Rattle.sim_deck.specs.Views.{counts_at};
 
@@ -10,6 +8,8 @@ use crate::forms::Count;
 use dec_text::Span;
 use deck_shape::kind::{BAD_NAME, LIST_LENGTH, REPEATED_NAME};
 use deck_shape::{fault_if, has_other_length, lesser, names_repeat};
+use kmc_base::OutOfMemory;
+use std::alloc::Global;
 
 /// How many species there are of each kind; `None` where that number has a fault.
 #[derive(Clone, Copy, Debug)]
@@ -53,12 +53,19 @@ fn any_is_bad(bytes: &[u8], names: &[Span]) -> bool
     names.iter().any(|name| is_bad_name(name.bytes(bytes)))
 }
 
-/// The fault of a list of names.
-pub(crate) fn names_kind(count: Option<u64>, bytes: &[u8], names: &[Span]) -> Option<u8>
-    ensures { result ≡ names_kind count (map (bytes_at bytes.now) names.now) }
+/// The fault of a list of names: that of another length than is stated comes before those of its names.
+pub(crate) fn names_kind(
+    alloc: Global,
+    count: Option<u64>,
+    bytes: &[u8],
+    names: &[Span],
+) -> Result<Option<u8>, OutOfMemory>
+    ensures { IfOk result (λ kind. kind ≡ names_kind count (map (bytes_at bytes.now) names.now)) }
 {
-    let length = fault_if(has_other_length(count, names.len()), LIST_LENGTH);
-    let repeated = fault_if(names_repeat(bytes, names), REPEATED_NAME);
+    if has_other_length(count, names.len()) {
+        return Ok(Some(LIST_LENGTH));
+    }
+    let repeated = fault_if(names_repeat(alloc, bytes, names)?, REPEATED_NAME);
     let bad = fault_if(any_is_bad(bytes, names), BAD_NAME);
-    lesser(length, lesser(repeated, bad))
+    Ok(lesser(repeated, bad))
 }

@@ -18,7 +18,7 @@ fn read_block(alloc: Global, bytes: &[u8], block: &Block) -> Result<SimPart, Dec
     ensures sound { IfOk result (λ part. IsSoundPart (values_at bytes.now part)) }
     ensures fault { IfErr result (IsFaultOf Simulation (part_of (block_at bytes.now block.now))) }
 {
-    if let Some((line, kind)) = first_fault(block, bytes) {
+    if let Some((line, kind)) = first_fault(alloc, block, bytes)? {
         return Err(DeckFault::Fault(Fault {
             file: FileId::Simulation,
             line,

@@ -6,11 +6,11 @@ use Rattle.sim_deck.proofs.faults.fault_among.Goals as goal
 pub returns-in-Some : goal.returns-in-Some
 returns-in-Some c =
     sym (found (counts_at c.args.counts.now) c.args.bytes.now c.args.items.now c.loop-item.item-index c.in-Some.kind c.item-item.result
-    (omega arith) c.item-item.is c.in-Some.ensures)
+    (omega arith) c.item-item.is (sym c.in-Some.is ∙ c.in_ok-kind.ensures))
     ∙ c.loop-item.invariant
 
 pub loop-item-preserved : goal.loop-item-preserved
 loop-item-preserved c =
     passed (counts_at c.args.counts.now) c.args.bytes.now c.args.items.now c.loop-item.item-index c.item-item.result
-    (omega arith) c.item-item.is (sym c.in_default.is ∙ c.item_kind.ensures)
+    (omega arith) c.item-item.is (sym c.in_default.is ∙ c.in_ok-kind.ensures)
     ∙ c.loop-item.invariant

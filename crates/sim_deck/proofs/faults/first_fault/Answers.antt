@@ -11,8 +11,8 @@ returns-in-Some c =
     let items = map (item_at text) c.args.block.now.items in
     let counts = counts_in items in
     let closing = option_map (λ kind. (c.args.block.now.end_line, kind)) (closing_kind counts items) in
-    let first : c.fault_among.result ≡ fault_among counts items None =
-    c.fault_among.ensures
+    let first : c.in_ok-fault.field-0 ≡ fault_among counts items None =
+    c.in_ok-fault.ensures
     ∙ ap (λ cs. fault_among cs (map (item_at text) c.as_slice.result.now) None) c.counts_in-counts.ensures
     ∙ ap (λ its. fault_among counts (map (item_at text) its) None) c.as_slice.ensures in
     ap (λ f. fault_or f closing) (sym c.in-Some.is ∙ first) ∙ sym (with_closing counts items closing)
@@ -23,8 +23,8 @@ returns-in-None c =
     let items = map (item_at text) c.args.block.now.items in
     let counts = counts_in items in
     let closing = option_map (λ kind. (c.args.block.now.end_line, kind)) (closing_kind counts items) in
-    let first : c.fault_among.result ≡ fault_among counts items None =
-    c.fault_among.ensures
+    let first : c.in_ok-fault.field-0 ≡ fault_among counts items None =
+    c.in_ok-fault.ensures
     ∙ ap (λ cs. fault_among cs (map (item_at text) c.as_slice.result.now) None) c.counts_in-counts.ensures
     ∙ ap (λ its. fault_among counts (map (item_at text) its) None) c.as_slice.ensures in
     c.closing_fault.ensures

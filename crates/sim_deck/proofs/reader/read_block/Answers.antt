@@ -7,7 +7,7 @@ use Rattle.sim_deck.proofs.reader.read_block.Goals as goal
 pub returns-clause-sound : goal.returns-clause-sound
 returns-clause-sound c =
     let block = block_at c.args.bytes.now c.args.block.now in
-    let none : first_fault block ≡ None = sym c.first_fault.ensures ∙ c.in_default.is in
+    let none : first_fault block ≡ None = sym c.in_ok-line.ensures ∙ c.in_default.is in
     let lists = subst AreLists (sym c.in_ok-values_of.ensures.value) (sound_lists block none) in
     let numbers = c.in_ok-values_of.ensures.range in
     record {
