@@ -5,8 +5,9 @@ use Rattle.dec_text.specs.Spans.{line_at}
 use Rattle.dec_text.specs.declared.lines.Line.{Line}
 use Rattle.deck_shape.specs.Blocks.{item_at}
 use Rattle.deck_shape.specs.declared.shape.Item.{Item}
-use Rattle.lattice_deck.specs.Faults.{fault_among, fault_or, first_of_lines, item_lines, line_fault, row_lines}
-use Rattle.lattice_deck.specs.Items.{row_words}
+use Rattle.site_rows.specs.FirstFault.{fault_or, first_of_lines, line_fault}
+use Rattle.site_rows.specs.Words.{row_words}
+use Rattle.lattice_deck.specs.Faults.{fault_among, item_lines, row_lines}
 use Rattle.lattice_deck.specs.declared.sizes.Sizes.{Sizes}
 use Rattle.lattice_deck.proofs.Maps.{next_mapped}
 

@@ -23,9 +23,11 @@ use Rattle.deck_shape.specs.declared.number.Number.TheVariants.{Whole}
 use Rattle.deck_shape.specs.declared.table.BlockKind.{BlockKind}
 use Rattle.deck_shape.specs.declared.table.BlockKind.TheVariants.{Simulation, LatticeFile, DefaultChoice, PeriodicCell, Explicit, NeighboringStructure as NeighboringRows, LatticeStructure as LatticeRows}
 use Rattle.deck_shape.specs.declared.table.Rule.{Rule}
+use Rattle.kmc_base.specs.declared.ids.TheConstants.{MAX_SITES}
 use Rattle.lattice_cell.specs.declared.expand.DefaultLattice.TheVariants.{Hexagonal, Rectangular}
+use Rattle.site_rows.specs.FirstFault.{first_of_lines}
 use Rattle.lattice_deck.specs.Faultless.{AreFaultless, HasDefault, IsDefault, IsDefaultOf}
-use Rattle.lattice_deck.specs.Faults.{fault_among, first_fault, first_of_lines, form_lines, form_of, item_lines, rows_faults, word_kind}
+use Rattle.lattice_deck.specs.Faults.{fault_among, first_fault, form_lines, form_of, item_lines, rows_faults, word_kind}
 use Rattle.lattice_deck.specs.Items.{words_behind, words_of}
 use Rattle.lattice_deck.specs.Joins.{crowds}
 use Rattle.lattice_deck.specs.Parts.{list_in, rows_in}
@@ -203,13 +205,13 @@ module _ (items : List ItemLines) (known : AllByRecursion (IsKnown PeriodicCell)
       let n = found PeriodicCell items SiteTypeNames known none named in
       let l = found PeriodicCell items SiteTypes known none listed in
       let j = found PeriodicCell items NeighboringStructure known none joined in
-      let number = stated_by 65536 (words_of s.item) (eqb-true (length (words_of s.item)) 1 (counted PeriodicCell items NCellSites s _ refl)) ((formed PeriodicCell items NCellSites s (Number SITE_COUNT) refl).0) in
-      let one : stated NCellSites 65536 items ≡ Some number.0 = ap (option_and_then (whole_of 65536)) (behind PeriodicCell items NCellSites s) ∙ number.1 in
+      let number = stated_by MAX_SITES (words_of s.item) (eqb-true (length (words_of s.item)) 1 (counted PeriodicCell items NCellSites s _ refl)) ((formed PeriodicCell items NCellSites s (Number SITE_COUNT) refl).0) in
+      let one : stated NCellSites MAX_SITES items ≡ Some number.0 = ap (option_and_then (whole_of MAX_SITES)) (behind PeriodicCell items NCellSites s) ∙ number.1 in
       let repeats = repeated_by (sites_in items) (words_of r.item) (eqb-true (length (words_of r.item)) 2 (counted PeriodicCell items RepeatCell r _ refl)) ((formed PeriodicCell items RepeatCell r Repeats refl).0) in
       let joins = formed PeriodicCell items NeighboringStructure j Joins refl in
       record {
         sound = sizes_sound items;
-        has_sites = some_first (stated NCellSites 65536 items) (stated NSites 65536 items) (ap is_some one);
+        has_sites = some_first (stated NCellSites MAX_SITES items) (stated NSites MAX_SITES items) (ap is_some one);
         has_repeats = ap (λ w. is_some (option_and_then (sound_repeats (sites_in items)) w)) (behind PeriodicCell items RepeatCell r) ∙ repeats;
         few_names = names_few PeriodicCell items t n (eqb-true (length (words_of t.item)) 1 (counted PeriodicCell items NSiteTypes t _ refl));
         one_type_each = ap (λ ws. has_other_length (sizes_in items).sites (length ws)) (list_behind PeriodicCell items SiteTypes l) ∙ not_held (has_other_length (sizes_in items).sites (length (words_of l.item))) LIST_LENGTH ((formed PeriodicCell items SiteTypes l Types refl).0);
@@ -225,12 +227,12 @@ module _ (items : List ItemLines) (known : AllByRecursion (IsKnown Explicit) ite
       let t = found Explicit items NSiteTypes known none typed in
       let n = found Explicit items SiteTypeNames known none named in
       let j = found Explicit items LatticeStructure known none rowed in
-      let number = stated_by 65536 (words_of s.item) (eqb-true (length (words_of s.item)) 1 (counted Explicit items NSites s _ refl)) ((formed Explicit items NSites s (Number SITE_COUNT) refl).0) in
-      let one : stated NSites 65536 items ≡ Some number.0 = ap (option_and_then (whole_of 65536)) (behind Explicit items NSites s) ∙ number.1 in
+      let number = stated_by MAX_SITES (words_of s.item) (eqb-true (length (words_of s.item)) 1 (counted Explicit items NSites s _ refl)) ((formed Explicit items NSites s (Number SITE_COUNT) refl).0) in
+      let one : stated NSites MAX_SITES items ≡ Some number.0 = ap (option_and_then (whole_of MAX_SITES)) (behind Explicit items NSites s) ∙ number.1 in
       let rows = formed Explicit items LatticeStructure j SiteRows refl in
       record {
         sound = sizes_sound items;
-        has_sites = some_else (stated NCellSites 65536 items) (stated NSites 65536 items) (ap is_some one);
+        has_sites = some_else (stated NCellSites MAX_SITES items) (stated NSites MAX_SITES items) (ap is_some one);
         few_names = names_few Explicit items t n (eqb-true (length (words_of t.item)) 1 (counted Explicit items NSiteTypes t _ refl));
         one_row_each = ap (λ rs. has_other_length (sizes_in items).sites (length rs)) (rows_behind Explicit items LatticeStructure j) ∙ not_held (has_other_length (sizes_in items).sites (length j.item.rows)) ROW_COUNT rows.0;
         sound_rows = ap (λ rs. first_of_lines (rows_faults (sizes_in items) SiteRows rs)) (rows_behind Explicit items LatticeStructure j) ∙ rows.1;

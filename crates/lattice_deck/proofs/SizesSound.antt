@@ -120,7 +120,7 @@ few_behind (Some all) (Some words) sites nx ny known is = let e : all ≡ sites 
 
 pub sizes_sound : (items : List ItemLines) → IsSizes (sizes_in items)
 sizes_sound items = record {
-  sites = either_range (stated NCellSites 65536 items) (stated NSites 65536 items) 65536 (stated_range NCellSites 65536 items) (stated_range NSites 65536 items);
+  sites = either_range (stated NCellSites MAX_SITES items) (stated NSites MAX_SITES items) MAX_SITES (stated_range NCellSites MAX_SITES items) (stated_range NSites MAX_SITES items);
   types = stated_range NSiteTypes 1000 items;
   repeats = behind_range (sites_in items) (words_behind RepeatCell items);
   few = few_behind (sites_in items) (words_behind RepeatCell items);

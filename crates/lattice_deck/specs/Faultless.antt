@@ -1,16 +1,17 @@
 -- What is true of the word lines of a lattice file that has no fault, neither of form nor of a value.
-use Rattle.std.specs.Prelude.{ℕ, ◌≡◌, ◌≤◌, true, false, List, [], length, Option, None, Some, is_some}
+use Rattle.std.specs.Prelude.{ℕ, ◌≡◌, ◌≤◌, true, false, List, length, Option, None, Some, is_some}
 use Rattle.dec_text.specs.Lines.{WordLine}
 use Rattle.deck_shape.specs.Blocks.{ItemLines}
 use Rattle.deck_shape.specs.Lists.{has_other_length}
 use Rattle.deck_shape.specs.declared.keyword.Keyword.TheVariants.{HexagonalPeriodic, LatticeStructure, NeighboringStructure, RectangularPeriodic, SiteTypeNames, SiteTypes}
 use Rattle.deck_shape.specs.declared.table.BlockKind.{BlockKind}
 use Rattle.deck_shape.specs.declared.table.BlockKind.TheVariants.{Simulation, LatticeFile, DefaultChoice, PeriodicCell, Explicit, NeighboringStructure as NeighboringRows, LatticeStructure as LatticeRows}
-use Rattle.lattice_deck.specs.Faults.{default_kind, first_of_lines, row_lines}
+use Rattle.site_rows.specs.FirstFault.{first_of_lines}
+use Rattle.site_rows.specs.SiteRows.{site_rows_fault}
+use Rattle.lattice_deck.specs.Faults.{default_kind, row_lines}
 use Rattle.lattice_deck.specs.Items.{words_behind}
 use Rattle.lattice_deck.specs.Joins.{crowds, join_kind}
 use Rattle.lattice_deck.specs.Parts.{list_in, rows_in}
-use Rattle.lattice_deck.specs.SiteRows.{rows_of, site_lines}
 use Rattle.lattice_deck.specs.Sizes.{IsSizes, sizes_in}
 use Rattle.lattice_deck.specs.declared.sizes.Sizes.{Sizes}
 
@@ -43,7 +44,7 @@ pub record IsExplicit (sizes : Sizes) (names : List (List ℕ)) (rows : List Wor
   pub has_sites : is_some sizes.sites ≡ true
   pub few_names : length names ≤ 1000
   pub one_row_each : has_other_length sizes.sites (length rows) ≡ false
-  pub sound_rows : first_of_lines (site_lines sizes.sites [] (rows_of rows) rows) ≡ None
+  pub sound_rows : site_rows_fault sizes.sites rows ≡ None
 
 -- the word lines of a block without a fault
 abbrev pub AreFaultless : BlockKind → List ItemLines → Type 0

@@ -10,10 +10,12 @@ use Rattle.deck_shape.specs.Numbers.{lesser, number_kind, numbers_kind}
 use Rattle.deck_shape.specs.Tables.{is_spelled}
 use Rattle.deck_shape.specs.declared.kind.TheConstants.{LIST_LENGTH, ROW_COUNT, SELF_NEIGHBOUR, TOO_MANY_NEIGHBOURS}
 use Rattle.deck_shape.specs.declared.number.Number.TheVariants.{Unused}
+use Rattle.site_rows.specs.FirstFault.{fault_or, first_of_lines}
+use Rattle.site_rows.specs.Words.{row_words}
+use Rattle.site_rows.specs.SiteRows.{rows_of, site_lines}
 use Rattle.lattice_deck.specs.Coordinates.{coordinates_kind}
-use Rattle.lattice_deck.specs.Items.{row_words, words_of}
+use Rattle.lattice_deck.specs.Items.{words_of}
 use Rattle.lattice_deck.specs.Joins.{crowds, join_kind}
-use Rattle.lattice_deck.specs.SiteRows.{rows_of, site_lines}
 use Rattle.lattice_deck.specs.Sizes.{repeats_kind, repeats_of, sizes_in}
 use Rattle.lattice_deck.specs.Types.{type_names_kind}
 use Rattle.lattice_deck.specs.declared.forms.Form.{Form}
@@ -80,20 +82,7 @@ form_lines sizes item form = (item.line.number, word_kind sizes form item) ∷ r
 abbrev pub item_lines : Sizes → ItemLines → List (ℕ × Option ℕ)
 item_lines sizes item = option_map_or (form_lines sizes item) (form_of (head_of item.line)) []
 
--- the first of two faults
-abbrev pub fault_or : Option (ℕ × ℕ) → Option (ℕ × ℕ) → Option (ℕ × ℕ)
-fault_or None later = later
-fault_or (Some fault) later = Some fault
-
--- the fault of a line, where it has a kind
-abbrev pub line_fault : ℕ → Option ℕ → Option (ℕ × ℕ)
-line_fault line kind = option_map (λ k. (line, k)) kind
-
--- the fault of the first of some lines that has one
-abbrev pub first_of_lines : List (ℕ × Option ℕ) → Option (ℕ × ℕ)
-first_of_lines [] = None
-first_of_lines (line ∷ lines) = fault_or (line_fault line.0 line.1) (first_of_lines lines)
-
+-- the fault of the first of some word lines that has one
 abbrev pub fault_among : Sizes → List ItemLines → Option (ℕ × ℕ)
 fault_among sizes [] = None
 fault_among sizes (item ∷ items) = fault_or (first_of_lines (item_lines sizes item)) (fault_among sizes items)

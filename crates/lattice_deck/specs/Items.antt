@@ -1,15 +1,10 @@
--- The words of lines, as bytes.
+-- The words of word lines, as bytes.
 use Rattle.std.specs.Prelude.{ℕ, List, map, Option}
 use Rattle.std.specs.List.{find}
 use Rattle.std.specs.Option.{option_map}
-use Rattle.dec_text.specs.Lines.{WordLine}
 use Rattle.deck_shape.specs.Blocks.{ItemLines, has_keyword}
 use Rattle.deck_shape.specs.LineWords.{arguments_of}
 use Rattle.deck_shape.specs.declared.keyword.Keyword.{Keyword}
-
--- the words of a row
-abbrev pub row_words : WordLine → List (List ℕ)
-row_words row = map (λ word. word.bytes) row.words
 
 -- the words behind the keyword of a line
 abbrev pub words_of : ItemLines → List (List ℕ)

@@ -1,9 +1,8 @@
 -- The rows of `neighboring_structure`, each of which joins two sites of a cell: `i-j` and where the cell of the second is.
-use Rattle.std.specs.Prelude.{ℕ, ◌-◌, ◌==◌, ◌&&◌, ◌||◌, Bool, true, false, List, [], ◌∷◌, length, Option, None, Some, Result, Ok, Err, codes, if◌then◌else◌, nat_lt, option_and_then}
+use Rattle.std.specs.Prelude.{ℕ, ◌-◌, ◌==◌, ◌&&◌, ◌||◌, Bool, true, false, List, [], ◌∷◌, length, Option, None, Some, codes, if◌then◌else◌, nat_lt, option_and_then}
 use Rattle.std.specs.List.{after_first, before_first, list_any}
 use Rattle.std.specs.Option.{option_map}
 use Rattle.dec_text.specs.Lines.{WordLine}
-use Rattle.dec_text.specs.Wholes.{whole_number}
 use Rattle.deck_shape.specs.Tables.{same_word}
 use Rattle.deck_shape.specs.declared.kind.TheConstants.{BAD_EDGE, ROW_FORM, SELF_NEIGHBOUR}
 use Rattle.lattice_cell.specs.Cells.{displaced}
@@ -12,18 +11,9 @@ use Rattle.lattice_cell.specs.declared.cell.Join.{Join}
 use Rattle.lattice_cell.specs.declared.cell.Toward.{Toward}
 use Rattle.lattice_cell.specs.declared.cell.Toward.TheVariants.{Own, North, Northeast, East, Southeast}
 use Rattle.lattice_core.specs.declared.graph.TheConstants.{MAX_NEIGHBOURS}
-use Rattle.lattice_deck.specs.Items.{row_words}
+use Rattle.site_rows.specs.Words.{is_no_site, row_words, some_whole}
 use Rattle.lattice_deck.specs.declared.joins.JoinRow.{JoinRow}
 use Rattle.lattice_deck.specs.declared.sizes.Sizes.{Sizes}
-
--- what a reading gives, where it gives anything
-abbrev pub found : {E : Type 0} → Result ℕ E → Option ℕ
-found (Ok n) = Some n
-found (Err e) = None
-
--- a whole number, where a word writes one
-abbrev pub some_whole : List ℕ → Option ℕ
-some_whole word = found (whole_number word)
 
 -- where the cell of the second site is
 abbrev pub toward_of : List ℕ → Option Toward
@@ -56,11 +46,7 @@ join_of (edge ∷ toward ∷ []) =
     option_and_then (λ ends. option_map (λ d. record { from = ends.0; to = ends.1; toward = d }) (toward_of toward)) (edge_of edge)
 join_of (edge ∷ toward ∷ next ∷ words) = None
 
--- a number is that of no site of the cell, where its number of sites is known
-abbrev pub is_no_site : Option ℕ → ℕ → Bool
-is_no_site None n = false
-is_no_site (Some sites) n = n == 0 || nat_lt sites n
-
+-- an end of a row is no site of the cell, where its number of sites is known
 abbrev pub has_bad_end : Option ℕ → JoinRow → Bool
 has_bad_end sites row = is_no_site sites row.from || is_no_site sites row.to
 

@@ -5,10 +5,6 @@ pub mod Forms
 pub mod Items
 pub mod Joins
 pub mod Parts
-pub mod Placing
-pub mod ReadRows
-pub mod RowLookup
-pub mod SiteRows
 pub mod Sizes
 pub mod Types
 pub mod Views

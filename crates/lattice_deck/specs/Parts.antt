@@ -1,6 +1,6 @@
 -- The values of a lattice file.
-use Rattle.std.specs.Prelude.{ℕ, ◌+◌, ◌-◌, List, [], ◌∷◌, map, Option, None, Some, Result, Ok, Err, codes, unwrap_or}
-use Rattle.std.specs.List.{find, range_with_len}
+use Rattle.std.specs.Prelude.{ℕ, List, [], ◌∷◌, map, Option, None, Some, Result, Ok, Err, codes, unwrap_or}
+use Rattle.std.specs.List.{find}
 use Rattle.std.specs.Option.{option_map_or}
 use Rattle.dec_text.specs.Lines.{WordLine}
 use Rattle.deck_shape.specs.Blocks.{BlockLines, ItemLines, has_keyword}
@@ -14,14 +14,14 @@ use Rattle.lattice_cell.specs.Default.{default_lattice}
 use Rattle.lattice_cell.specs.Periodic.{periodic_lattice}
 use Rattle.lattice_cell.specs.declared.expand.DefaultLattice.{DefaultLattice}
 use Rattle.lattice_cell.specs.declared.expand.DefaultLattice.TheVariants.{Hexagonal, Rectangular}
-use Rattle.lattice_core.specs.Fault.{lattice_from}
 use Rattle.lattice_core.specs.Lattice.{Lattice}
+use Rattle.site_rows.specs.Listed.{listed_lattice}
+use Rattle.site_rows.specs.SiteRows.{rows_of}
+use Rattle.site_rows.specs.Types.{type_of}
 use Rattle.lattice_deck.specs.Faults.{first_fault}
 use Rattle.lattice_deck.specs.Items.{words_behind}
 use Rattle.lattice_deck.specs.Joins.{joins_of}
-use Rattle.lattice_deck.specs.SiteRows.{SiteRow, row_for, rows_of}
 use Rattle.lattice_deck.specs.Sizes.{repeats_of, sizes_in}
-use Rattle.lattice_deck.specs.Types.{type_of}
 use Rattle.lattice_deck.specs.declared.part.LatticePart.{LatticePart}
 use Rattle.lattice_deck.specs.declared.sizes.Sizes.{Sizes}
 
@@ -84,18 +84,7 @@ cell_values items = record {
 abbrev pub type_on : WordLine → NameWord
 type_on row = record { word = first_of (after_first (after_first (after_first row.words))); line = row.number }
 
--- the type and the neighbours, from 0, of each site by its row
-abbrev pub type_at : List (List ℕ) → List SiteRow → ℕ → ℕ
-type_at names rows site = option_map_or (λ row. type_of names row.type_word) (row_for (site + 1) rows) 0
-
-abbrev pub neighbours_at : List SiteRow → ℕ → List ℕ
-neighbours_at rows site = option_map_or (λ row. map (λ n. n - 1) row.neighbours) (row_for (site + 1) rows) []
-
--- the lattice of a list of sites
-abbrev pub listed_lattice : ℕ → List (List ℕ) → List SiteRow → Lattice
-listed_lattice sites names rows =
-    lattice_from (map (type_at names rows) (range_with_len 0 sites)) (map (neighbours_at rows) (range_with_len 0 sites))
-
+-- the values of a file with a list of sites
 abbrev pub explicit_values : List ItemLines → LatticeValues
 explicit_values items = record {
   lattice = listed_lattice (unwrap_or (sizes_in items).sites 0) (list_in SiteTypeNames items) (rows_of (rows_in LatticeStructure items));

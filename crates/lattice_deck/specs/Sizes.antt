@@ -43,13 +43,14 @@ sound_repeats sites words = if is_none (repeats_kind sites words) then repeats_o
 abbrev pub stated : Keyword → ℕ → List ItemLines → Option ℕ
 stated keyword most items = option_and_then (whole_of most) (words_behind keyword items)
 
--- the number of sites that is stated: of a cell, or of the lattice
+-- a number, or the other one where there is none
 abbrev pub or_else : Option ℕ → Option ℕ → Option ℕ
 or_else None other = other
 or_else (Some n) other = Some n
 
+-- the number of sites that is stated: of a cell, or of the lattice
 abbrev pub sites_in : List ItemLines → Option ℕ
-sites_in items = or_else (stated NCellSites 65536 items) (stated NSites 65536 items)
+sites_in items = or_else (stated NCellSites MAX_SITES items) (stated NSites MAX_SITES items)
 
 abbrev pub sizes_in : List ItemLines → Sizes
 sizes_in items = record {
@@ -64,7 +65,7 @@ AreRepeats repeats = (1 ≤ repeats.0) × (1 ≤ repeats.1)
 
 -- what is true of the numbers of every file: each is at least 1, and the repeats give no more sites than there may be
 pub record IsSizes (sizes : Sizes) : Type 0 where
-  pub sites : IfSome sizes.sites (λ n. (1 ≤ n) × (n ≤ 65536))
+  pub sites : IfSome sizes.sites (λ n. (1 ≤ n) × (n ≤ MAX_SITES))
   pub types : IfSome sizes.types (λ n. (1 ≤ n) × (n ≤ 1000))
   pub repeats : IfSome sizes.repeats AreRepeats
   pub few : (sites nx ny : ℕ) → sizes.sites ≡ Some sites → sizes.repeats ≡ Some (nx, ny) → nx * ny * sites ≤ MAX_SITES

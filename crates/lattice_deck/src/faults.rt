@@ -1,11 +1,12 @@
-ghost use Rattle.std.specs.Prelude.{◌≡◌, IfOk, IfSome, List, ℕ, Some, map};
+ghost use Rattle.std.specs.Prelude.{◌≡◌, IfOk, IfSome, List, ℕ, map};
 ghost use Rattle.std.specs.List.{find};
-ghost use Rattle.std.specs.Option.{option_copied, option_map};
+ghost use Rattle.std.specs.Option.{option_copied};
 ghost use Rattle.dec_text.specs.Spans.{bytes_at, line_at};
 ghost use Rattle.deck_shape.specs.Blocks.{ItemLines, block_at, item_at};
 ghost use Rattle.deck_shape.specs.Tables.{is_spelled};
+ghost use Rattle.site_rows.specs.FirstFault.{fault_or, first_of_lines, line_fault};
 ghost use Rattle.lattice_deck.specs.Coordinates.{coordinates_kind as spec_coordinates_kind};
-ghost use Rattle.lattice_deck.specs.Faults.{default_kind, fault_among, fault_or, first_fault, first_of_lines, form_lines, form_of, is_narrow, item_lines, line_fault, row_count, row_lines, rows_faults, rows_kind, word_kind};
+ghost use Rattle.lattice_deck.specs.Faults.{default_kind, fault_among, first_fault, form_lines, form_of, is_narrow, item_lines, row_count, row_lines, rows_faults, rows_kind, word_kind};
 ghost use Rattle.lattice_deck.specs.Forms.{IsForm};
 ghost use Rattle.lattice_deck.specs.declared.forms.Form.TheVariants.{Joins};
 ghost use Rattle.lattice_deck.specs.Joins.{join_kind};
@@ -15,7 +16,6 @@ ghost use Rattle.lattice_deck.specs.declared.forms.TheConstants.{FORMS as ENTRIE
 use crate::coordinates::coordinates_kind;
 use crate::forms::{FORMS, Form, RowCount, WordForm};
 use crate::joins::{crowds, join_kind};
-use crate::site_rows::site_rows_fault;
 use crate::sizes::{Sizes, repeats_kind, repeats_of, sizes_in};
 use crate::types::type_names_kind;
 use crate::words::{row_words, words_of};
@@ -25,6 +25,7 @@ use deck_shape::{
     Block, Item, Number, fault_if, has_other_length, lesser, number_kind, numbers_kind,
 };
 use kmc_base::OutOfMemory;
+use site_rows::site_rows_fault;
 use std::alloc::Global;
 
 /// The entry of a word in the table of forms.
@@ -119,7 +120,7 @@ fn word_kind(
     match form {
         Form::Number(number) => Ok(numbers_kind(number, bytes, words)),
         Form::Repeats => Ok(repeats_kind(sizes.sites, bytes, words)),
-        Form::TypeNames => Ok(type_names_kind(sizes.types, bytes, words)),
+        Form::TypeNames => type_names_kind(alloc, sizes.types, bytes, words),
         Form::Types => Ok(fault_if(has_other_length(sizes.sites, words.len()), LIST_LENGTH)),
         Form::Coordinates(count) => Ok(rows_kind(row_count(sizes, count), rows)),
         Form::Joins => joins_kind(alloc, sizes, bytes, rows),

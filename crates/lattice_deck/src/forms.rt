@@ -1,6 +1,7 @@
 //! What the words of the lattice file take as values, as data: the definitions and the reader go by this table.
 
 use deck_shape::{Keyword, Number};
+use kmc_base::MAX_SITES;
 use lattice_cell::DefaultLattice;
 
 /// How many rows a word has.
@@ -41,7 +42,7 @@ pub struct WordForm {
 }
 
 /// A number of sites, in a cell or of a lattice.
-pub const SITE_COUNT: Number = Number::Whole(1, 65_536);
+pub const SITE_COUNT: Number = Number::Whole(1, MAX_SITES as u64);
 
 /// A number of types of sites.
 pub const TYPE_COUNT: Number = Number::Whole(1, 1000);

@@ -2,16 +2,18 @@ ghost use Rattle.std.specs.Prelude.{◌≡◌, ◌∷◌, ◌==◌, ◌&&◌, �
 ghost use Rattle.std.specs.List.{after_first, before_first, position};
 ghost use Rattle.std.specs.Option.{option_map};
 ghost use Rattle.dec_text.specs.Spans.{bytes_at, line_at};
+ghost use Rattle.kmc_base.specs.declared.ids.TheConstants.{MAX_SITES};
 ghost use Rattle.lattice_cell.specs.Cells.{IsInCell, displaced};
 ghost use Rattle.lattice_deck.specs.Joins.{crowds, edge_of, has_bad_end, is_dash, join_kind, join_of, join_on, join_row_kind, joins_itself, joins_of, leads_back, sound_join, toward_of};
 ghost use Rattle.lattice_deck.specs.Sizes.{AreRepeats, IsSizes};
 
 use crate::sizes::Sizes;
-use crate::words::{is_no_site, row_words, some_whole};
+use crate::words::row_words;
 use dec_text::{Line, Span};
 use deck_shape::kind::{BAD_EDGE, ROW_FORM, SELF_NEIGHBOUR};
 use kmc_base::OutOfMemory;
 use lattice_cell::{Join, Toward, is_crowded};
+use site_rows::{is_no_site, some_whole};
 use std::alloc::Global;
 
 /// A row of `neighboring_structure`: the two sites of the cell, from 1, and the cell of the second.
@@ -156,7 +158,7 @@ pub(crate) fn join_kind(sizes: &Sizes, bytes: &[u8], words: &[Span]) -> Option<u
 
 /// The join of a row, with sites from 0, where its ends are sites of the cell.
 fn sound_join(sites: u64, row: JoinRow) -> Option<Join>
-    requires { sites ≤ 65536 }
+    requires { sites ≤ MAX_SITES }
     ensures value { result ≡ sound_join sites row }
     ensures ends { IfSome result (IsInCell sites) }
 {
@@ -172,7 +174,7 @@ fn sound_join(sites: u64, row: JoinRow) -> Option<Join>
 
 /// The join of a line, where it has the right form and ends in the cell.
 fn join_on(sites: u64, bytes: &[u8], row: &Line) -> Option<Join>
-    requires { sites ≤ 65536 }
+    requires { sites ≤ MAX_SITES }
     ensures value { result ≡ join_on sites (line_at bytes.now row.now) }
     ensures ends { IfSome result (IsInCell sites) }
 {
@@ -189,7 +191,7 @@ pub(crate) fn joins_of(
     bytes: &[u8],
     rows: &[Line],
 ) -> Result<Option<Vec<Join>>, OutOfMemory>
-    requires { sites ≤ 65536 }
+    requires { sites ≤ MAX_SITES }
     ensures value { IfOk result (λ joins. option_map (λ v. v.items) joins ≡ joins_of sites (map (line_at bytes.now) rows.now)) }
     ensures ends { IfOk result (λ joins. IfSome joins (λ v. All (IsInCell sites) v.items)) }
 {

@@ -1,19 +1,15 @@
 //! The values of the lattice file: its lattice, the names of types, and the type words.
 //!
 //! `read` gives exactly the values of a file of the right shape, or exactly its first fault of a value, and `unknown_type`
-//! exactly the first type word that is no type. It stands on deck_shape and lattice_cell.
+//! exactly the first type word that is no type. It stands on deck_shape, lattice_cell and site_rows.
 #![tactic(auto)]
 
 mod coordinates;
 mod faults;
 mod forms;
 mod joins;
-mod listed;
 mod part;
 mod reader;
-mod row_index;
-mod site_row;
-mod site_rows;
 mod sizes;
 mod types;
 mod unknown;

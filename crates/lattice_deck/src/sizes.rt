@@ -102,9 +102,9 @@ fn stated(block: &Block, bytes: &[u8], keyword: Keyword, most: u64) -> Option<u6
 fn sites_in(block: &Block, bytes: &[u8]) -> Option<u64>
     ensures { result ≡ sites_in (block_at bytes.now block.now).items }
 {
-    match stated(block, bytes, Keyword::NCellSites, 65_536) {
+    match stated(block, bytes, Keyword::NCellSites, u64::from(MAX_SITES)) {
         Some(sites) => Some(sites),
-        None => stated(block, bytes, Keyword::NSites, 65_536),
+        None => stated(block, bytes, Keyword::NSites, u64::from(MAX_SITES)),
     }
 }
 

@@ -1,4 +1,4 @@
-ghost use Rattle.std.specs.Prelude.{◌≡◌, ◌*◌, ◌≤◌, [], ℕ, List, All, IfOk, None, Some, codes, length, map, unwrap_or};
+ghost use Rattle.std.specs.Prelude.{◌≡◌, ◌*◌, ◌≤◌, ℕ, List, All, IfOk, None, length, map, unwrap_or};
 ghost use Rattle.dec_text.specs.Spans.{bytes_at, line_at, run_at};
 ghost use Rattle.deck_shape.specs.Blocks.{block_at, item_at};
 ghost use Rattle.deck_shape.specs.Names.{name_at};
@@ -7,24 +7,23 @@ ghost use Rattle.lattice_cell.specs.Cells.{IsInCell};
 ghost use Rattle.lattice_cell.specs.Default.{default_lattice};
 ghost use Rattle.lattice_cell.specs.Periodic.{neighbour_lists, periodic_lattice};
 ghost use Rattle.lattice_core.specs.Fault.{first_fault};
+ghost use Rattle.site_rows.specs.Listed.{listed_lattice};
+ghost use Rattle.site_rows.specs.SiteRows.{rows_of};
+ghost use Rattle.site_rows.specs.Types.{type_of as spec_type_of};
 ghost use Rattle.lattice_deck.specs.Faultless.{AreFaultless, HasDefault, IsCell, IsDefault, IsExplicit};
-ghost use Rattle.lattice_deck.specs.Parts.{behind_constant, cell_of, cell_values, default_of, default_values, explicit_values, listed_lattice, names_on, type_on, values_at, values_of};
-ghost use Rattle.lattice_deck.specs.SiteRows.{rows_of};
-ghost use Rattle.lattice_deck.specs.Sizes.{sizes_in};
-ghost use Rattle.lattice_deck.specs.Types.{type_of as spec_type_of};
+ghost use Rattle.lattice_deck.specs.Parts.{behind_constant, cell_of, cell_values, default_of, default_values, explicit_values, names_on, type_on, values_at, values_of};
 ghost use Rattle.lattice_deck.specs.Views.{name_of};
 
 use crate::joins::joins_of;
-use crate::listed::listed_graph;
 use crate::part::LatticePart;
 use crate::sizes::{Sizes, repeats_of, sizes_in};
-use crate::types::type_of;
 use crate::words::{list_in, rows_in, words_behind};
 use dec_text::{Line, Span};
 use deck_shape::{Block, BlockKind, Item, Keyword, Name};
 use kmc_base::{Items, OutOfMemory};
 use lattice_cell::{DefaultLattice, Join, expand_default, expand_periodic};
 use lattice_core::{Graph, GraphFault};
+use site_rows::{listed_graph, type_of};
 use std::alloc::Global;
 
 /// The one fault of neighbours that have none.

@@ -2,11 +2,11 @@ ghost use Rattle.std.specs.Prelude.{◌≡◌, ℕ, List, map};
 ghost use Rattle.std.specs.Option.{option_map};
 ghost use Rattle.dec_text.specs.Spans.{bytes_at, line_at};
 ghost use Rattle.deck_shape.specs.Blocks.{block_at, item_at};
-ghost use Rattle.lattice_deck.specs.Items.{row_words, words_behind, words_of};
-ghost use Rattle.lattice_deck.specs.Joins.{is_no_site, some_whole};
+ghost use Rattle.site_rows.specs.Words.{row_words};
+ghost use Rattle.lattice_deck.specs.Items.{words_behind, words_of};
 ghost use Rattle.lattice_deck.specs.Parts.{list_in, rows_in};
 
-use dec_text::{Line, Span, read_whole};
+use dec_text::{Line, Span};
 use deck_shape::{Block, Item, Keyword};
 
 /// The words of a row.
@@ -51,25 +51,5 @@ pub(crate) fn rows_in<'a>(block: &'a Block, bytes: &[u8], keyword: Keyword) -> &
     match block.item(bytes, keyword) {
         Some(item) => item.rows.as_slice(),
         None => &[],
-    }
-}
-
-/// A whole number, where a word writes one.
-pub(crate) fn some_whole(word: &[u8]) -> Option<u64>
-    ensures { result ≡ some_whole word.now }
-{
-    match read_whole(word) {
-        Ok(n) => Some(n),
-        Err(_) => None,
-    }
-}
-
-/// A number is that of no site, where the number of sites is known.
-pub(crate) fn is_no_site(sites: Option<u64>, n: u64) -> bool
-    ensures { result ≡ is_no_site sites n }
-{
-    match sites {
-        Some(sites) => n == 0 || n > sites,
-        None => false,
     }
 }

@@ -1,6 +1,6 @@
 use Rattle.std.proofs.Common.{◌∙◌, ap, sym, arith}
+use Rattle.site_rows.specs.FirstFault.{line_fault}
 use Rattle.lattice_deck.specs.Coordinates.{coordinates_kind}
-use Rattle.lattice_deck.specs.Faults.{line_fault}
 use Rattle.lattice_deck.proofs.FaultLines.{row_found, row_passed}
 use Rattle.lattice_deck.proofs.faults.coordinates_fault.Goals as goal
 

@@ -1,7 +1,8 @@
 use Rattle.std.proofs.Common.{◌≡◌, drop, map}
 use Rattle.dec_text.specs.Spans.{line_at}
+use Rattle.site_rows.specs.FirstFault.{first_of_lines}
 use Rattle.lattice_deck.specs.Coordinates.{coordinates_kind}
-use Rattle.lattice_deck.specs.Faults.{first_of_lines, row_lines}
+use Rattle.lattice_deck.specs.Faults.{row_lines}
 use Rattle.lattice_deck.proofs.faults.coordinates_fault.Given as goal
 
 -- the first fault of the rows that are left is that of all

@@ -1,0 +1,7 @@
+mod Faultless
+mod ListedLattice
+mod NumberLists
+mod Placed
+mod RowLookups
+mod RowWords
+mod Searches
