@@ -1,35 +1,34 @@
 -- What holds of the trajectory of a sound deck at each event that it comes to.
-use Rattle.std.proofs.Common.{◌≡◌, ℕ, zero, suc, ◌^◌, ◌<◌, ◌≤◌, true, false, not, cond, eqb, ℤ, List, [], ◌∷◌, Option, None, Some, length, map, refl, sym, ap, subst, ◌∙◌, arith, ◌&&◌}
+use Rattle.std.proofs.Common.{◌≡◌, ℕ, zero, suc, ◌^◌, ◌≤◌, true, false, not, cond, eqb, ℤ, List, [], ◌∷◌, Option, None, Some, length, map, refl, sym, ap, subst, ◌∙◌, arith, ◌&&◌}
 use Rattle.std.proofs.lemmas.Bool.{eqb-true}
 use Rattle.std.proofs.lemmas.List.{length-replicate, length-set}
-use Rattle.std.specs.List.{AllByRecursion}
+use Rattle.std.proofs.lemmas.List.Elements.{All-contains_itself, recursion_from_All}
+use Rattle.std.specs.List.{AllByRecursion, Contains}
 use Rattle.std.specs.Option.{option_map}
-use Rattle.std.specs.Prelude.{option_and_then, IfSome, IsSomeAnd, ◌-◌}
+use Rattle.std.specs.Prelude.{option_and_then, IfSome, IsSomeAnd, ◌-◌, slice_get, slice_set}
 use Rattle.fixed_math.specs.WaitingTime.{IsLater, time_of}
+use Rattle.fixed_math.proofs.TimeLemmas.{time_of-later}
 use Rattle.kmc_base.specs.Entries.{IsRising, codes_of, chosen, entry_at, first_of_two, kept_or, least, moment_at, moment_of, same_rate, is_fired, comes_before}
 use Rattle.kmc_base.specs.declared.entry.Entry.{Entry}
 use Rattle.kmc_base.specs.declared.moment.When.{When}
 use Rattle.kmc_base.specs.declared.moment.When.TheVariants.{At, Never}
-use Rattle.named_draws.specs.Draw.{draw}
-use Rattle.kmc_core.proofs.Instances.{AreCodes, codes-all, codes-rising}
-use Rattle.fixed_math.proofs.TimeLemmas.{time_of-later}
+use Rattle.kmc_core.proofs.Instances.{offers-well}
+use Rattle.kmc_core.proofs.Offered.{codes_offered}
 use Rattle.kmc_core.specs.Deck.{IsSound}
-use Rattle.kmc_core.specs.OneSite.{State, opening, process_of, site_of, system_of, trajectory_of}
+use Rattle.kmc_core.specs.PlainSystem.{fired_by, fired_on, opening, process_of, sites_of, system_of, trajectory_of}
 use Rattle.kmc_core.specs.Run.{ClosedRun, IsClosedAt, IsOpenAt}
+use Rattle.kmc_core.specs.Sides.{states_for, with_states}
 use Rattle.kmc_core.specs.Trajectory.{Snapshot, System, fired, fresh, renewed, start, trajectory}
 use Rattle.kmc_core.specs.declared.deck.PlainDeck.{PlainDeck}
-use Rattle.lattice_core.specs.Lattice.{site_count}
+use Rattle.kmc_core.specs.declared.deck.PlainProcess.{PlainProcess}
+use Rattle.lattice_core.specs.Lattice.{Lattice, site_count}
+use Rattle.lattice_core.specs.declared.state.State.{State}
+use Rattle.named_draws.specs.Draw.{draw}
 
 -- a moment that is not past the end of time
 abbrev pub IsInTime : When → Type 0
 IsInTime (At t) = t ≤ 10 ^ 30
 IsInTime Never = Unit {0}
-
--- the entry of an instance of some steps on some sites, in time
-pub record IsEntryOf (steps sites : ℕ) (e : Entry) : Type 0 where
-  pub process : process_of e.code < steps
-  pub site : site_of e.code < sites
-  pub when : IsInTime e.when
 
 in_time : (now : ℕ) (w : When) → IsLater now w → IsInTime w
 in_time now (At t) later = later.1
@@ -130,66 +129,77 @@ came_from {S} system seed first n now e =
 pub record IsWell (deck : PlainDeck) (s : Snapshot (List State)) : Type 0 where
   pub sites : length s.state ≡ site_count deck.graph
   pub time : s.time ≤ 10 ^ 30
-  pub rising : IsRising (codes_of s.entries)
-  pub codes : AllByRecursion (AreCodes 0 (length deck.steps) (site_count deck.graph)) (codes_of s.entries)
+  pub codes : codes_of s.entries ≡ codes_offered deck s.state
   pub times : AllByRecursion (λ e. IsInTime e.when) s.entries
 
 -- the entries of a state with the deck's number of sites
-well-renewed : (deck : PlainDeck) → IsSound deck → (event : ℕ) (old : List Entry) (first : ℕ × ℕ) (sites : List State) →
-    length sites ≡ site_count deck.graph → first.0 ≤ 10 ^ 30 → AllByRecursion (λ e. IsInTime e.when) old →
-    IsWell deck (record { state = sites; time = first.0; entries = renewed deck.plan.seed event old first ((system_of deck).offers sites) })
-well-renewed deck sound event old first sites len time all =
-    let few : length sites ≤ 2 ^ 20 = omega (arith, sound.lattice.within_limit) in
-    let codes = codes-renewed deck.plan.seed event old first ((system_of deck).offers sites) in
-    record {
-      sites = len;
-      time = time;
-      rising = subst IsRising (sym codes) (codes-rising deck.temperature sites 0 deck.steps few);
-      codes = subst (AllByRecursion (AreCodes 0 (length deck.steps) (site_count deck.graph))) (sym codes)
-          (subst (λ (n : ℕ). AllByRecursion (AreCodes 0 (length deck.steps) n) (map (λ (o : ℕ × Option ℤ). o.0) ((system_of deck).offers sites))) len (codes-all deck.temperature sites 0 deck.steps few));
-      times = renewed-in_time deck.plan.seed event old first ((system_of deck).offers sites) all;
-    }
+well-renewed : (deck : PlainDeck) (event : ℕ) (old : List Entry) (first : ℕ × ℕ) (states : List State) →
+    length states ≡ site_count deck.graph → first.0 ≤ 10 ^ 30 → AllByRecursion (λ e. IsInTime e.when) old →
+    IsWell deck (record { state = states; time = first.0; entries = renewed deck.plan.seed event old first ((system_of deck).offers states) })
+well-renewed deck event old first states len time all = record {
+  sites = len;
+  time = time;
+  codes = codes-renewed deck.plan.seed event old first ((system_of deck).offers states);
+  times = renewed-in_time deck.plan.seed event old first ((system_of deck).offers states) all;
+}
 
--- the first moment is in time, and its code names a step and a site of the deck
-pub record IsFirstOf (deck : PlainDeck) (first : ℕ × ℕ) : Type 0 where
+-- the first moment is in time, and its code is that of an instance
+pub record IsFirstOf (deck : PlainDeck) (states : List State) (first : ℕ × ℕ) : Type 0 where
   pub time : first.0 ≤ 10 ^ 30
-  pub code : AreCodes 0 (length deck.steps) (site_count deck.graph) first.1
+  pub offered : Contains (codes_offered deck states) first.1
 
 all-both : (P : ℕ → Type 0) (Q : Entry → Type 0) (es : List Entry) → AllByRecursion P (codes_of es) → AllByRecursion Q es → AllByRecursion (λ e. P e.code × Q e) es
 all-both P Q [] p q = tt
 all-both P Q (e ∷ es) p q = ((p.0, q.0), all-both P Q es p.1 q.1)
 
-pub first-well : (deck : PlainDeck) (s : Snapshot (List State)) (first : ℕ × ℕ) → IsWell deck s → least s.entries ≡ Some first → IsFirstOf deck first
+pub first-well : (deck : PlainDeck) (s : Snapshot (List State)) (first : ℕ × ℕ) → IsWell deck s → least s.entries ≡ Some first → IsFirstOf deck s.state first
 first-well deck s first well is =
-    let P : Entry → Type 0 = λ e. AreCodes 0 (length deck.steps) (site_count deck.graph) e.code × IsInTime e.when in
-    let one : IsMomentOf P first = subst (λ (o : Option (ℕ × ℕ)). IfSome o (IsMomentOf P)) is (least-one P s.entries (all-both (AreCodes 0 (length deck.steps) (site_count deck.graph)) (λ e. IsInTime e.when) s.entries well.codes well.times)) in
+    let codes : List ℕ = codes_of s.entries in
+    let listed : AllByRecursion (Contains codes) codes = recursion_from_All (Contains codes) codes (All-contains_itself codes) in
+    let one : IsMomentOf (λ e. Contains codes e.code × IsInTime e.when) first =
+    subst (λ (o : Option (ℕ × ℕ)). IfSome o (IsMomentOf (λ e. Contains codes e.code × IsInTime e.when))) is
+    (least-one (λ e. Contains codes e.code × IsInTime e.when) s.entries (all-both (Contains codes) (λ e. IsInTime e.when) s.entries listed well.times)) in
     record {
       time = subst IsInTime one.2 one.1.1;
-      code = subst (AreCodes 0 (length deck.steps) (site_count deck.graph)) one.3 one.1.0;
+      offered = subst (λ (cs : List ℕ). Contains cs first.1) well.codes (subst (λ (n : ℕ). Contains codes n) one.3 one.1.0);
     }
 
+-- states that are put on sites are put on sites that are there
+pub with_states-length : (given : List (ℕ × State)) (states : List State) → length (with_states given states) ≡ length states
+unfolding with_states
+with_states-length [] states = refl
+with_states-length (g ∷ given) states = with_states-length given (slice_set states g.0 g.1) ∙ length-set states g.0 g.1
+
 -- the state after an event has as many sites
-pub fires-length : (deck : PlainDeck) (sites : List State) (code : ℕ) → length ((system_of deck).fires sites code) ≡ length sites
-fires-length deck sites code = simp length-set
+fired_on-length : (states : List State) (process : PlainProcess) (sites : Option (List ℕ)) → length (fired_on states process sites) ≡ length states
+fired_on-length states process None = refl
+fired_on-length states process (Some sites) = with_states-length (states_for process.after sites) states
 
-pub well-fired : (deck : PlainDeck) → IsSound deck → (event : ℕ) (old : Snapshot (List State)) (first : ℕ × ℕ) → IsWell deck old → least old.entries ≡ Some first →
+fired_by-length : (lattice : Lattice) (states : List State) (code : ℕ) (process : Option PlainProcess) → length (fired_by lattice states code process) ≡ length states
+fired_by-length lattice states code None = refl
+fired_by-length lattice states code (Some process) = fired_on-length states process (sites_of lattice states process code)
+
+pub fires-length : (deck : PlainDeck) (states : List State) (code : ℕ) → length ((system_of deck).fires states code) ≡ length states
+fires-length deck states code = fired_by-length deck.graph states code (slice_get deck.processes (process_of code))
+
+pub well-fired : (deck : PlainDeck) (event : ℕ) (old : Snapshot (List State)) (first : ℕ × ℕ) → IsWell deck old → least old.entries ≡ Some first →
     IsWell deck (fired (system_of deck) deck.plan.seed event old first)
-well-fired deck sound event old first well is =
-    well-renewed deck sound event old.entries first ((system_of deck).fires old.state first.1) (fires-length deck old.state first.1 ∙ well.sites) (first-well deck old first well is).time well.times
+well-fired deck event old first well is =
+    well-renewed deck event old.entries first ((system_of deck).fires old.state first.1) (fires-length deck old.state first.1 ∙ well.sites) (first-well deck old first well is).time well.times
 
-pub well-start : (deck : PlainDeck) → IsSound deck → IsWell deck (start (system_of deck) deck.plan.seed (opening deck))
-well-start deck sound = well-renewed deck sound 0 [] (0, 0) (opening deck) (simp length-replicate) (omega arith) tt
+pub well-start : (deck : PlainDeck) → IsWell deck (start (system_of deck) deck.plan.seed (opening deck))
+well-start deck = well-renewed deck 0 [] (0, 0) (opening deck) (simp length-replicate) (omega arith) tt
 
 -- each event that the trajectory comes to is well
-pub well-at : (deck : PlainDeck) → IsSound deck → (n : ℕ) (s : Snapshot (List State)) → trajectory_of deck n ≡ Some s → IsWell deck s
-well-at deck sound zero s e = let is : start (system_of deck) deck.plan.seed (opening deck) ≡ s = cc in subst (IsWell deck) is (well-start deck sound)
-well-at deck sound (suc n) s e =
+pub well-at : (deck : PlainDeck) (n : ℕ) (s : Snapshot (List State)) → trajectory_of deck n ≡ Some s → IsWell deck s
+well-at deck zero s e = let is : start (system_of deck) deck.plan.seed (opening deck) ≡ s = cc in subst (IsWell deck) is (well-start deck)
+well-at deck (suc n) s e =
     let came = came_from (system_of deck) deck.plan.seed (opening deck) n s e in
-    subst (IsWell deck) came.is (well-fired deck sound (suc n) came.old came.fires (well-at deck sound n came.old came.before) came.least)
+    subst (IsWell deck) came.is (well-fired deck (suc n) came.old came.fires (well-at deck n came.old came.before) came.least)
 
 -- what a closed run is at is well
 pub closed-well : (deck : PlainDeck) (event : ℕ) (s : Snapshot (List State)) → IsClosedAt deck event s → IsWell deck s
-closed-well deck event s closed = well-at deck closed.sound event s closed.state
+closed-well deck event s closed = well-at deck event s closed.state
 
 -- what comes first in a closed run comes first among its entries
 pub came_first : (deck : PlainDeck) (event : ℕ) (s : Snapshot (List State)) (first : ℕ × ℕ) (run : ClosedRun) → record { deck = deck; event = event } ≡ run →
@@ -199,20 +209,23 @@ came_first deck event s first run is closed h =
     (subst (λ (r : ClosedRun). IsSomeAnd (trajectory_of r.deck r.event) (λ t. least t.entries ≡ Some first)) (sym is) h)
 
 -- an open run holds the old entries, in order; what has fired is in time; and it has the deck's number of sites
-pub record IsOpenWell (deck : PlainDeck) (first : ℕ × ℕ) (sites : List State) (entries : List Entry) : Type 0 where
+pub record IsOpenWell (deck : PlainDeck) (first : ℕ × ℕ) (states : List State) (entries : List Entry) : Type 0 where
+  pub sound : IsSound deck
   pub time : first.0 ≤ 10 ^ 30
   pub rising : IsRising (codes_of entries)
-  pub few : length sites ≤ 2 ^ 20
+  pub sites : length states ≡ site_count deck.graph
 
-pub open-well : (deck : PlainDeck) (event : ℕ) (first : ℕ × ℕ) (sites : List State) (entries : List Entry) (after : Option (List Entry)) →
-    IsOpenAt deck event first sites entries after → IsOpenWell deck first sites entries
-open-well deck event first sites entries after o =
+pub open-well : (deck : PlainDeck) (event : ℕ) (first : ℕ × ℕ) (states : List State) (entries : List Entry) (after : Option (List Entry)) →
+    IsOpenAt deck event first states entries after → IsOpenWell deck first states entries
+open-well deck event first states entries after o =
     let well = closed-well deck (event - 1) o.old o.closed in
     let came : least o.old.entries ≡ Some first = ap least o.old_entries ∙ o.came_first in
+    let codes : codes_of entries ≡ codes_offered deck o.old.state = ap codes_of (sym o.old_entries) ∙ well.codes in
     record {
+      sound = o.closed.sound;
       time = (first-well deck o.old first well came).time;
-      rising = subst (λ (es : List Entry). IsRising (codes_of es)) o.old_entries well.rising;
-      few = omega (arith, ap length o.fired_sites, fires-length deck o.old.state first.1, well.sites, o.closed.sound.lattice.within_limit);
+      rising = subst IsRising (sym codes) (offers-well deck o.closed.sound o.old.state well.sites).rising;
+      sites = ap length o.fired_states ∙ (fires-length deck o.old.state first.1 ∙ well.sites);
     }
 
 -- the event after one that the trajectory comes to, where something fires there
@@ -224,16 +237,22 @@ goes_to {S} system seed state n event old first is at came =
     ∙ ap (option_map (fired system seed (suc n) old)) came)
 
 -- an open run with the entries after its event is at that event
-pub closes : (deck : PlainDeck) (event : ℕ) (first : ℕ × ℕ) (sites : List State) (entries : List Entry) (after : Option (List Entry)) (next : List Entry) →
-    IsOpenAt deck event first sites entries after → after ≡ Some next → IsClosedAt deck event (record { state = sites; time = first.0; entries = next })
-closes deck event first sites entries after next o is =
-    let at_next : next ≡ renewed deck.plan.seed event entries first ((system_of deck).offers sites) =
-    subst (λ (x : Option (List Entry)). IfSome x (λ es. es ≡ renewed deck.plan.seed event entries first ((system_of deck).offers sites))) is o.renewed_entries in
+pub closes : (deck : PlainDeck) (event : ℕ) (first : ℕ × ℕ) (states : List State) (entries : List Entry) (after : Option (List Entry)) (next : List Entry) →
+    IsOpenAt deck event first states entries after → after ≡ Some next → IsClosedAt deck event (record { state = states; time = first.0; entries = next })
+closes deck event first states entries after next o is =
+    let at_next : next ≡ renewed deck.plan.seed event entries first ((system_of deck).offers states) =
+    subst (λ (x : Option (List Entry)). IfSome x (λ es. es ≡ renewed deck.plan.seed event entries first ((system_of deck).offers states))) is o.renewed_entries in
     let came : least o.old.entries ≡ Some first = ap least o.old_entries ∙ o.came_first in
     record {
       sound = o.closed.sound;
       allowed = o.allowed;
       state = goes_to (system_of deck) deck.plan.seed (opening deck) (event - 1) event o.old first (omega (arith, o.some)) o.closed.state came
-          ∙ ap2 (λ (ss : List State) (es : List Entry). Some (record { state = ss; time = first.0; entries = es })) (sym o.fired_sites)
-          (ap2 (λ (es : List Entry) (ss : List State). renewed deck.plan.seed event es first ((system_of deck).offers ss)) o.old_entries (sym o.fired_sites) ∙ sym at_next);
+          ∙ ap2 (λ (ss : List State) (es : List Entry). Some (record { state = ss; time = first.0; entries = es })) (sym o.fired_states)
+          (ap2 (λ (es : List Entry) (ss : List State). renewed deck.plan.seed event es first ((system_of deck).offers ss)) o.old_entries (sym o.fired_states) ∙ sym at_next);
+      well_formed = o.well_formed;
     }
+
+-- what fires first in a closed run
+pub fires_first : (deck : PlainDeck) (event : ℕ) (s : Snapshot (List State)) (first : ℕ × ℕ) (run : ClosedRun) → record { deck = deck; event = event } ≡ run →
+    IsClosedAt deck event s → IsSomeAnd (trajectory_of run.deck run.event) (λ t. least t.entries ≡ Some first) → IsFirstOf deck s.state first
+fires_first deck event s first run is closed h = first-well deck s first (closed-well deck event s closed) (came_first deck event s first run is closed h)

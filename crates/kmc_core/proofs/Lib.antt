@@ -1,4 +1,12 @@
+pub mod ByCode
+pub mod Each
 pub mod Facts
+pub mod FiringEntities
+pub mod FiringSites
+pub mod FiringStates
+pub mod FiringSteps
+pub mod Homes
 pub mod Instances
 pub mod Merging
-pub mod Rising
+pub mod Offered
+pub mod Placed

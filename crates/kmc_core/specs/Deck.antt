@@ -1,24 +1,41 @@
--- A plain deck: one-site steps of species of one dentate, with no energies.
-use Rattle.std.specs.Prelude.{◌≡◌, ℕ, ◌^◌, ◌≤◌, ◌<◌, Option, length, unsigned_abs}
-use Rattle.std.specs.List.{All, AllByRecursion}
-use Rattle.std.specs.Option.{ForSome}
-use Rattle.kmc_base.specs.declared.ids.SpeciesId.{SpeciesId}
+-- A plain deck: steps of one direction whose sites do not interact, with no energies and no gas.
+use Rattle.std.specs.Prelude.{◌≡◌, ℕ, ◌^◌, ◌≤◌, List, length, slice_index_or, unsigned_abs}
+use Rattle.std.specs.List.{All, AllByRecursion, Contains}
 use Rattle.kmc_core.specs.declared.deck.PlainDeck.{PlainDeck}
-use Rattle.kmc_core.specs.declared.deck.PlainStep.{PlainStep}
+use Rattle.kmc_core.specs.declared.deck.PlainProcess.{PlainProcess}
 use Rattle.lattice_core.specs.Lattice.{IsLattice}
+use Rattle.pattern_types.specs.Parts.{PatternParts}
+use Rattle.pattern_types.specs.Soundness.{IsSound as IsPattern}
+use Rattle.pattern_types.specs.declared.wanted.Wanted.{Wanted}
+use Rattle.pattern_types.specs.declared.wanted.Wanted.TheVariants.{Any, Vacant, Holds}
 use Rattle.sim_deck.specs.Soundness.{IsSoundPlan}
+use Rattle.species_book.specs.Book.{Book}
 
--- the state of a site is vacant, or one of so many species
-abbrev pub IsState : ℕ → Option SpeciesId → Type 0
-IsState count state = ForSome state (λ species. species.0 < count)
+-- the number of dentates of each species of a book, and 0 of what is no species of it
+abbrev pub dentates_in : Book → ℕ → ℕ
+dentates_in book species = slice_index_or book.dentates species 0
 
--- its states are those of the deck's species, and its activation energy is at most 10^12 neV, of either sign
-pub record IsSoundStep (species : ℕ) (step : PlainStep) : Type 0 where
-  pub before : IsState species step.before
-  pub after : IsState species step.after
-  pub activation : unsigned_abs step.activation ≤ 10 ^ 12
+-- a vertex of a side of a step wants a vacant site, or a dentate of an entity of which some vertex wants each dentate
+abbrev pub IsWholeWant : (ℕ → ℕ) → List Wanted → Wanted → Type 0
+IsWholeWant dentates wanted Any = ⊥
+IsWholeWant dentates wanted Vacant = Unit {0}
+IsWholeWant dentates wanted (Holds entity species dentate) =
+    (1 ≤ dentate) × (dentate ≤ dentates species.0) × ((d : ℕ) → 1 ≤ d → d ≤ dentates species.0 → Contains wanted (Holds entity species d))
 
--- the numbers of the deck are in their ranges, and its sites and their neighbours make a lattice
+-- one side of a step, before or after it: a pattern whose entities are whole adsorbates of the deck's species
+pub record IsSoundSide (dentates : ℕ → ℕ) (side : PatternParts) : Type 0 where
+  pub pattern : IsPattern side
+  pub whole : All (IsWholeWant dentates side.wanted) side.wanted
+
+-- both sides are of the same vertices, edges and types, and the activation energy is at most 10^12 neV, of either sign
+pub record IsSoundProcess (dentates : ℕ → ℕ) (process : PlainProcess) : Type 0 where
+  pub before : IsSoundSide dentates process.before
+  pub after : IsSoundSide dentates process.after
+  pub edges : process.after.edges ≡ process.before.edges
+  pub types : process.after.types ≡ process.before.types
+  pub activation : unsigned_abs process.activation ≤ 10 ^ 12
+
+-- the numbers of the deck are in their ranges, its sites and their neighbours make a lattice, and its processes are sound
 pub record IsSound (deck : PlainDeck) : Type 0 where
   pub some_temperature : 1 ≤ deck.temperature
   pub temperature : deck.temperature ≤ 10000000
@@ -26,5 +43,5 @@ pub record IsSound (deck : PlainDeck) : Type 0 where
   pub plan : IsSoundPlan deck.plan
   pub gas : deck.gas ≡ length deck.book.gas
   pub dentates : All (λ d. (1 ≤ d) × (d ≤ 8)) deck.book.dentates
-  pub few_steps : length deck.steps ≤ 1024
-  pub steps : AllByRecursion (IsSoundStep (length deck.book.surface)) deck.steps
+  pub few_processes : length deck.processes ≤ 1024
+  pub processes : AllByRecursion (IsSoundProcess (dentates_in deck.book)) deck.processes

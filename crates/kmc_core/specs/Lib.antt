@@ -1,8 +1,11 @@
 pub mod Deck
+pub mod Entities
 pub mod Firing
+pub mod Instances
 pub mod Offers
-pub mod OneSite
+pub mod PlainSystem
 pub mod Rate
 pub mod Run
+pub mod Sides
 pub mod Stops
 pub mod Trajectory

@@ -2,12 +2,14 @@
 use Rattle.std.specs.Prelude.{◌≡◌, ℕ, ◌-◌, ◌≤◌, List, Option, Some, option_and_then, IfSome}
 use Rattle.kmc_base.specs.Entries.{least}
 use Rattle.kmc_base.specs.declared.entry.Entry.{Entry}
-use Rattle.kmc_core.specs.Deck.{IsSound}
-use Rattle.kmc_core.specs.OneSite.{State, system_of, trajectory_of}
+use Rattle.kmc_core.specs.Deck.{IsSound, dentates_in}
+use Rattle.kmc_core.specs.PlainSystem.{system_of, trajectory_of}
 use Rattle.kmc_core.specs.Stops.{stop_at}
 use Rattle.kmc_core.specs.Trajectory.{Snapshot, renewed}
 use Rattle.kmc_core.specs.declared.deck.PlainDeck.{PlainDeck}
 use Rattle.kmc_core.specs.declared.stop.Stop.{Stop}
+use Rattle.lattice_core.specs.Config.{IsWellFormed}
+use Rattle.lattice_core.specs.declared.state.State.{State}
 
 -- A run that is closed at an event: its deck and the event say all of it, by the deck's trajectory.
 pub record ClosedRun : Type 0 where
@@ -30,15 +32,17 @@ pub record IsClosedAt (deck : PlainDeck) (event : ℕ) (snapshot : Snapshot (Lis
   pub sound : IsSound deck
   pub allowed : event ≤ deck.plan.max_steps
   pub state : trajectory_of deck event ≡ Some snapshot
+  pub well_formed : IsWellFormed (dentates_in deck.book) snapshot.state
 
--- At an event that has fired, `first` is what came first before it, and the sites are those after it. The entries are
+-- At an event that has fired, `first` is what came first before it, and the states are those after it. The entries are
 -- still the old ones; those after the event are there, or not yet.
-pub record IsOpenAt (deck : PlainDeck) (event : ℕ) (first : ℕ × ℕ) (sites : List State) (entries : List Entry) (after : Option (List Entry)) : Type 0 where
+pub record IsOpenAt (deck : PlainDeck) (event : ℕ) (first : ℕ × ℕ) (states : List State) (entries : List Entry) (after : Option (List Entry)) : Type 0 where
   pub old : Snapshot (List State)
   pub closed : IsClosedAt deck (event - 1) old
   pub some : 1 ≤ event
   pub allowed : event ≤ deck.plan.max_steps
   pub old_entries : old.entries ≡ entries
   pub came_first : least entries ≡ Some first
-  pub fired_sites : sites ≡ (system_of deck).fires old.state first.1
-  pub renewed_entries : IfSome after (λ es. es ≡ renewed deck.plan.seed event entries first ((system_of deck).offers sites))
+  pub fired_states : states ≡ (system_of deck).fires old.state first.1
+  pub well_formed : IsWellFormed (dentates_in deck.book) states
+  pub renewed_entries : IfSome after (λ es. es ≡ renewed deck.plan.seed event entries first ((system_of deck).offers states))

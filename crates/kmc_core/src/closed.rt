@@ -1,20 +1,22 @@
-ghost use Rattle.std.specs.Prelude.{◌≡◌, ◌^◌, ◌≤◌, ◌<◌, IfOk, IfErr, IsSomeAnd, count_by, replicate};
+ghost use Rattle.std.specs.Prelude.{◌≡◌, ◌==◌, ℕ, ◌^◌, ◌≤◌, ◌<◌, IfOk, IfErr, IsSomeAnd, count_by};
 ghost use Rattle.kmc_base.specs.Entries.{least as least_of};
-ghost use Rattle.kmc_core.specs.Deck.{IsSound};
-ghost use Rattle.kmc_core.specs.OneSite.{opening as opening_of, same_state as are_same, system_of, trajectory_of};
+ghost use Rattle.kmc_core.specs.Deck.{IsSound, dentates_in};
+ghost use Rattle.kmc_core.specs.PlainSystem.{is_home_of, opening as opening_of, system_of, trajectory_of};
 ghost use Rattle.kmc_core.specs.Run.{stop_of};
 ghost use Rattle.kmc_core.specs.Trajectory.{start};
+ghost use Rattle.lattice_core.specs.Config.{IsWellFormed};
 
 use crate::deck::PlainDeck;
 use crate::fired::Fired;
-use crate::state::same_state;
 use crate::stop::{Stop, stop_at};
 use crate::unclosed::Unclosed;
 use crate::{least, listing, renewal};
 use kmc_base::{Entry, OutOfMemory, SpeciesId};
+use lattice_core::{Config, Steps};
 use named_draws::Draws;
 use std::alloc::Global;
-use std::marker::Model;
+use std::marker::{Brand, Model};
+use std::sync::ledger::{Blank, Ledger};
 
 /// A run at an event, with every instance listed: the state of the deck's trajectory at this event.
 ///
@@ -24,7 +26,7 @@ pub struct Closed {
     pub(crate) deck: PlainDeck,
     pub(crate) event: u64,
     pub(crate) time: u128,
-    pub(crate) sites: Vec<Option<SpeciesId>>,
+    pub(crate) config: Config,
     pub(crate) entries: Vec<Entry>,
 }
 
@@ -37,30 +39,42 @@ impl Model for Closed {
 
     ghost view = { λ c. record { deck = c.deck; event = c.event } };
 
-    ghost invariant = { λ c. IsClosedAt c.deck c.event (record { state = c.sites.items; time = c.time; entries = c.entries.items }) };
+    ghost invariant = { λ c. IsClosedAt c.deck c.event (record { state = c.config; time = c.time; entries = c.entries.items }) };
 }
 
-/// The vacant lattice.
-fn vacant(alloc: Global, sites: u32) -> Result<Vec<Option<SpeciesId>>, OutOfMemory>
-    ensures { IfOk result (λ v. v.items ≡ replicate sites None) }
-{
-    Ok(vec![in alloc; None; sites as usize]?)
-}
-
-/// The sites and the entries of a deck at its start.
-fn opening(
-    alloc: Global,
-    deck: &PlainDeck,
-) -> Result<(Vec<Option<SpeciesId>>, Vec<Entry>), OutOfMemory>
+/// The configuration and the entries of a deck at its start.
+fn opening(alloc: Global, deck: &PlainDeck) -> Result<(Config, Vec<Entry>), OutOfMemory>
     requires { IsSound deck.now }
-    ensures sites { IfOk result (λ r. r.0.items ≡ opening_of deck.now) }
+    ensures states { IfOk result (λ r. r.0 ≡ opening_of deck.now) }
+    ensures well_formed { IfOk result (λ r. IsWellFormed (dentates_in deck.now.book) r.0) }
     ensures entries { IfOk result (λ r. r.1.items ≡ (start (system_of deck.now) deck.now.plan.seed (opening_of deck.now)).entries) }
 {
-    let sites = vacant(alloc, deck.graph.len())?;
-    let offers = listing::instances(alloc, deck, &sites)?;
+    let config = Config::vacant(alloc, deck.graph.len())?;
+    let offers = listing::instances(alloc, deck, &config)?;
     let mut draws = Draws::new(deck.plan.seed);
     let entries = renewal::renew(alloc, &[], (0, 0), &offers, &mut draws, 0)?;
-    Ok((sites, entries))
+    Ok((config, entries))
+}
+
+/// How many of some sites have a class.
+fn count_class(classes: &[u32], class: u32) -> u64
+    ensures { result ≡ count_by (λ other. other == class) classes.now }
+{
+    classes.iter().filter(|other| **other == class).count() as u64
+}
+
+/// How many adsorbates of a species there are: as many as sites with their dentate 1.
+fn count_homes<L: Ledger>(config: &Config, species: SpeciesId, blank: Blank) -> u64
+    requires name { blank.name ≡ L.name }
+    requires parts { blank.parts ≡ L.parts }
+    requires has_a_part { 0 < L.parts }
+    requires well_formed { (dentates : ℕ → ℕ) × ((s : ℕ) → dentates s ≤ 8) × IsWellFormed dentates config.now }
+    ensures { result ≡ count_by (is_home_of species) config.now }
+{
+    // No one looks at this count of reads.
+    let mut steps = Steps::<L>::new(blank);
+    let home = u32::from(species.0) * 8 + 1;
+    count_class(config.classes(&mut steps), home)
 }
 
 impl Closed {
@@ -73,11 +87,11 @@ impl Closed {
         ensures err { IfErr result (λ refused. refused.0 ≡ deck) }
     {
         match opening(alloc, &deck) {
-            Ok((sites, entries)) => Ok(Closed {
+            Ok((config, entries)) => Ok(Closed {
                 deck,
                 event: 0,
                 time: 0,
-                sites,
+                config,
                 entries,
             }),
             Err(error) => Err((deck, error)),
@@ -108,14 +122,11 @@ impl Closed {
         least::least(&self.entries)
     }
 
-    /// The number of sites that hold a species.
+    /// The number of adsorbates of a species.
     pub fn counts_of(&self, species: SpeciesId) -> u64
-        ensures { IsSomeAnd (trajectory_of self.now.deck self.now.event) (λ s. result ≡ count_by (are_same (Some species)) s.state) }
+        ensures { IsSomeAnd (trajectory_of self.now.deck self.now.event) (λ s. result ≡ count_by (is_home_of species) s.state) }
     {
-        self.sites
-            .iter()
-            .filter(|state| same_state(Some(species), **state))
-            .count() as u64
+        count_homes::<Brand>(&self.config, species, Blank::new(1))
     }
 
     /// What fires next, or why nothing does.

@@ -1,15 +1,17 @@
-use kmc_base::{Items, SpeciesId};
+use kmc_base::Items;
 use lattice_core::Graph;
+use pattern_types::Pattern;
 use sim_deck::Plan;
 use species_book::SpeciesBook;
 
-/// A step on one site, from one state of the site to another.
-#[derive(Clone, Copy, Debug, PartialEq, Eq)]
-pub struct PlainStep {
-    /// The species that stands on the site before the step, or `None` where the site is vacant.
-    pub before: Option<SpeciesId>,
-    /// The species that stands on the site after the step.
-    pub after: Option<SpeciesId>,
+/// A process: an elementary step in one direction. Both sides are patterns of the same vertices, edges and types, and
+/// their entities are whole adsorbates.
+#[derive(Debug, Drop)]
+pub struct PlainProcess {
+    /// What it asks of the sites of an instance.
+    pub before: Pattern,
+    /// What stands on them afterwards.
+    pub after: Pattern,
     /// The base-2 logarithm of the pre-exponential factor in 1/s, in units of 2^-30, or None where
     /// the factor is 0.
     pub factor: Option<i64>,
@@ -17,12 +19,12 @@ pub struct PlainStep {
     pub activation: i64,
 }
 
-/// A deck of one-site steps, on a lattice of sites that do not interact.
+/// A deck of processes on a lattice whose adsorbates do not interact.
 #[derive(Debug, Drop)]
 pub struct PlainDeck {
     /// The temperature in mK, from 1 to 10,000,000.
     pub temperature: u32,
-    /// The lattice. A step on one site looks at no neighbour, so only the number of sites matters.
+    /// The lattice.
     pub graph: Graph,
     /// The random seed, the end of the run, and when it is sampled.
     pub plan: Plan,
@@ -30,6 +32,6 @@ pub struct PlainDeck {
     pub book: SpeciesBook,
     /// The number of gas species.
     pub gas: u8,
-    /// The steps, in deck order; at most 1,024. A step's place, from 0, is the number of its process.
-    pub steps: Items<PlainStep>,
+    /// The processes, in deck order; at most 1,024. A process has its place, from 0, as its number.
+    pub processes: Items<PlainProcess>,
 }

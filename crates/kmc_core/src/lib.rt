@@ -1,31 +1,32 @@
 //! The core: what a state of the lattice offers, and the trajectory from one event to the next by
 //! rescanning the whole lattice.
 //!
-//! A site is vacant or holds one of the deck's species. A `Closed` is the state of its deck's
-//! trajectory at its event, by its type; an `Unclosed` has fired the next event and cannot be fired
-//! itself. A run ends for the first of four reasons that holds: an output has all its samples, the
+//! A process is a pair of patterns: what it asks of the sites of an instance, and what stands on
+//! them afterwards. A `Closed` is the state of its deck's trajectory at its event, by its type; an
+//! `Unclosed` has fired the next event and cannot be fired itself. A run ends for the first of four reasons that holds: an output has all its samples, the
 //! greatest number of events is reached, nothing can fire any more, or what fires next comes after
 //! the end of time.
 //!
 //! The crate stands on `kmc_base` for entries and the rule by which they keep their times, on
-//! `lattice_core` for the lattice, on `sim_deck` for the plan of a run, on `species_book` for its
+//! `lattice_core` for the lattice and its configuration, on `pattern_types` and `pattern_list` for
+//! patterns and their instances, on `sim_deck` for the plan of a run, on `species_book` for its
 //! species, on `fixed_math` for waiting times and on `named_draws` for random numbers.
 #![tactic(auto)]
 
 mod closed;
 mod deck;
 mod fired;
+mod firing;
 mod least;
 mod listing;
 mod renewal;
-mod state;
 mod stop;
 #[cfg(test)]
 mod tests;
 mod unclosed;
 
 pub use closed::Closed;
-pub use deck::{PlainDeck, PlainStep};
+pub use deck::{PlainDeck, PlainProcess};
 pub use fired::Fired;
 pub use stop::Stop;
 pub use unclosed::{Unclosed, Undone};

@@ -96,7 +96,7 @@ pub(crate) fn renew(
     ensures value { IfOk result (λ entries. entries.items ≡ renewed draws.old event old.now first offers.now) }
     ensures seed { draws.new ≡ draws.old }
 {
-    let mut entries = Vec::new(alloc);
+    let mut entries = Vec::with_capacity(alloc, offers.len())?;
     let mut rest = old;
     for offer in offers {
         rest = skip_below(rest, offer.0);

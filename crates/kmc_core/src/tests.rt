@@ -1,12 +1,14 @@
-ghost use Rattle.std.specs.Prelude.{◌≡◌, ◌^◌, ◌<◌, ◌≤◌, IfOk, IfSome, length, unsigned_abs, []};
+ghost use Rattle.std.specs.Prelude.{◌≡◌, ◌^◌, ◌<◌, ◌≤◌, ℕ, Contains, IfOk, IfSome, IsTrue, length, [], ◌∷◌, slice_index, vec_len};
 ghost use Rattle.std.specs.List.{All, AllByRecursion};
-ghost use Rattle.kmc_core.specs.Deck.{IsSound, IsSoundStep, IsState};
+ghost use Rattle.kmc_core.specs.Deck.{IsSound, IsSoundProcess, IsSoundSide, IsWholeWant};
 ghost use Rattle.lattice_core.specs.Lattice.{IsLattice};
+ghost use Rattle.pattern_types.specs.Edges.{edge_set, joined};
 ghost use Rattle.sim_deck.specs.Soundness.{IsPeriod, IsSoundPlan};
 
-use crate::{Closed, Fired, PlainDeck, PlainStep, Stop, Unclosed};
-use kmc_base::{Items, SpeciesId};
+use crate::{Closed, Fired, PlainDeck, PlainProcess, Stop, Unclosed};
+use kmc_base::{Items, SiteId, SpeciesId};
 use lattice_core::Graph;
+use pattern_types::{Pattern, Wanted};
 use sim_deck::{Plan, Sampling};
 use species_book::SpeciesBook;
 use std::alloc::Global;
@@ -18,33 +20,75 @@ const SITE: u128 = 1 << 35;
 
 const PROCESS: u128 = 1 << 55;
 
+/// What the next slot adds to a code, of the second vertex that is placed, and of the third.
+const SECOND: u128 = 1 << 30;
+
+const THIRD: u128 = 1 << 25;
+
 /// A pre-exponential factor of 1e300: every wait is 1 as.
 const AT_ONCE: Option<i64> = Some(1_070_067_939_600);
 
 /// A pre-exponential factor of 1e13.
 const USUAL: Option<i64> = Some(46_369_610_716);
 
-/// The two species of the decks.
+/// The two species of the decks of adsorbates on one site each, and that of the decks of dimers.
 const A: SpeciesId = SpeciesId(0);
 
 const B: SpeciesId = SpeciesId(1);
 
+const DIMER: SpeciesId = SpeciesId(0);
+
+/// Sides of steps on one site.
+const FREE: &[Wanted] = &[Wanted::Vacant];
+
+const ON_A: &[Wanted] = &[Wanted::Holds {
+    entity: 1,
+    species: A,
+    dentate: 1,
+}];
+
+const ON_B: &[Wanted] = &[Wanted::Holds {
+    entity: 1,
+    species: B,
+    dentate: 1,
+}];
+
+/// Vertices that want the dentates of a dimer.
+const FIRST: Wanted = Wanted::Holds {
+    entity: 1,
+    species: DIMER,
+    dentate: 1,
+};
+
+const LAST: Wanted = Wanted::Holds {
+    entity: 1,
+    species: DIMER,
+    dentate: 2,
+};
+
 /// What a run tells at an event: its time, its numbers of both species, and what fires next.
 type Told = (u128, [u64; 2], Option<(u128, u128)>);
 
-/// A step between two states of a site.
-fn step(
-    before: Option<SpeciesId>,
-    after: Option<SpeciesId>,
+/// A step of a deck: the edges of its vertices, what they want before and after it, the factor of its rate, and its
+/// activation energy.
+#[derive(Clone, Copy)]
+struct Reaction<'a> {
+    edges: &'a [(u8, u8)],
+    before: &'a [Wanted],
+    after: &'a [Wanted],
     factor: Option<i64>,
     activation: i64,
-) -> PlainStep
-    requires before { IsState 2 before }
-    requires after { IsState 2 after }
-    requires activation { unsigned_abs activation ≤ 10 ^ 12 }
-    ensures { IsSoundStep 2 result }
-{
-    PlainStep {
+}
+
+/// A step on one site.
+fn step<'a>(
+    before: &'a [Wanted],
+    after: &'a [Wanted],
+    factor: Option<i64>,
+    activation: i64,
+) -> Reaction<'a> {
+    Reaction {
+        edges: &[],
         before,
         after,
         factor,
@@ -69,11 +113,132 @@ fn plan(seed: u64, max_steps: u64, max_time: Option<u128>, specnum: Sampling) ->
     }
 }
 
-/// The book of the two species.
-fn book(alloc: Global) -> Result<SpeciesBook, Fail>
+/// Whether a vertex wants a dentate of an entity.
+fn is_dentate(vertex: Wanted, entity: u8, species: SpeciesId, dentate: u8) -> bool
+    ensures { IsTrue result → vertex ≡ Wanted.Holds entity species dentate }
+{
+    match vertex {
+        Wanted::Holds {
+            entity: e,
+            species: s,
+            dentate: d,
+        } => e == entity && s.0 == species.0 && d == dentate,
+        Wanted::Any | Wanted::Vacant => false,
+    }
+}
+
+/// Whether some vertex wants a dentate of an entity.
+fn wants(wanted: &[Wanted], entity: u8, species: SpeciesId, dentate: u8) -> bool
+    ensures { IsTrue result → Contains wanted.now (Wanted.Holds entity species dentate) }
+{
+    for vertex in wanted {
+        if is_dentate(*vertex, entity, species, dentate) {
+            return true;
+        }
+    }
+    false
+}
+
+/// Whether some vertex wants each dentate of an entity, of so many.
+fn wants_each(wanted: &[Wanted], entity: u8, species: SpeciesId, dentates: u8) -> bool
+    ensures { IsTrue result → (d : ℕ) → 1 ≤ d → d ≤ dentates → Contains wanted.now (Wanted.Holds entity species d) }
+{
+    for place in 0..dentates {
+        if !wants(wanted, entity, species, place + 1) {
+            return false;
+        }
+    }
+    true
+}
+
+/// Whether a vertex wants a vacant site, or a dentate of a whole entity, by the dentates of each species.
+fn is_whole_at(wanted: &[Wanted], dentates: &[u8], vertex: Wanted) -> bool
+    ensures { IsTrue result → IsWholeWant (λ s. slice_index dentates.now s) wanted.now vertex }
+{
+    match vertex {
+        Wanted::Any => false,
+        Wanted::Vacant => true,
+        Wanted::Holds {
+            entity,
+            species,
+            dentate,
+        } => {
+            let place = usize::from(species.0);
+            if place >= dentates.len() {
+                return false;
+            }
+            1 <= dentate
+                && dentate <= dentates[place]
+                && wants_each(wanted, entity, species, dentates[place])
+        }
+    }
+}
+
+/// Whether the entities of a side are whole.
+fn is_whole(wanted: &[Wanted], dentates: &[u8]) -> bool
+    ensures { IsTrue result → All (IsWholeWant (λ s. slice_index dentates.now s) wanted.now) wanted.now }
+{
+    for vertex in wanted {
+        if !is_whole_at(wanted, dentates, *vertex) {
+            return false;
+        }
+    }
+    true
+}
+
+/// A side of a step.
+fn side(
+    edges: &[(u8, u8)],
+    types: &[Option<u16>],
+    wanted: &[Wanted],
+    dentates: &[u8],
+) -> Result<Pattern, Fail>
+    ensures edges { IfOk result (λ side. side.edges ≡ edge_set (joined edges.now)) }
+    ensures types { IfOk result (λ side. side.types ≡ types.now) }
+    ensures sound { IfOk result (λ side. IsSoundSide (λ s. slice_index dentates.now s) side) }
+{
+    if types.len() != wanted.len() || !is_whole(wanted, dentates) {
+        return Err("no side of a step")?;
+    }
+    let side = Pattern::new(edges, types, wanted)?;
+    prove!(0 < side.len());
+    Ok(side)
+}
+
+/// The process of a step. Its vertices ask for no types of sites.
+fn process(step: &Reaction, dentates: &[u8]) -> Result<PlainProcess, Fail>
+    ensures { IfOk result (IsSoundProcess (λ s. slice_index dentates.now s)) }
+{
+    let types = [None; 8]
+        .get(..step.before.len())
+        .ok_or("too many vertices")?;
+    if step.activation.unsigned_abs() > 1_000_000_000_000 {
+        return Err("too great an energy")?;
+    }
+    Ok(PlainProcess {
+        before: side(step.edges, types, step.before, dentates)?,
+        after: side(step.edges, types, step.after, dentates)?,
+        factor: step.factor,
+        activation: step.activation,
+    })
+}
+
+/// The processes of some steps.
+fn processes(alloc: Global, steps: &[Reaction], dentates: &[u8]) -> Result<Vec<PlainProcess>, Fail>
+    ensures few { IfOk result (λ processes. vec_len processes ≡ length steps.now) }
+    ensures sound { IfOk result (λ processes. AllByRecursion (IsSoundProcess (λ s. slice_index dentates.now s)) processes.items) }
+{
+    let mut processes = Vec::new(alloc);
+    for step in steps {
+        processes.push(process(step, dentates)?)?;
+    }
+    Ok(processes)
+}
+
+/// The book of the two species of one site each.
+fn one_site_species(alloc: Global) -> Result<SpeciesBook, Fail>
     ensures gas { IfOk result (λ book. book.gas ≡ []) }
-    ensures surface { IfOk result (λ book. length book.surface ≡ 2) }
-    ensures dentates { IfOk result (λ book. All (λ d. (1 ≤ d) × (d ≤ 8)) book.dentates) }
+    ensures dentates { IfOk result (λ book. book.dentates ≡ 1 ∷ 1 ∷ []) }
 {
     let a = Vec::from_slice(alloc, b"A*")?;
     let b = Vec::from_slice(alloc, b"B*")?;
@@ -82,40 +247,92 @@ fn book(alloc: Global) -> Result<SpeciesBook, Fail>
     Ok(SpeciesBook::new(Vec::new(alloc), surface, dentates))
 }
 
-/// A lattice of four sites that have no neighbours.
-fn four_sites(alloc: Global) -> Result<Graph, Fail>
+/// The book of the dimers.
+fn dimers(alloc: Global) -> Result<SpeciesBook, Fail>
+    ensures gas { IfOk result (λ book. book.gas ≡ []) }
+    ensures dentates { IfOk result (λ book. book.dentates ≡ 2 ∷ []) }
+{
+    let oxygen = Vec::from_slice(alloc, b"O2**")?;
+    let surface = vec![in alloc; oxygen]?;
+    let dentates = vec![in alloc; 2]?;
+    Ok(SpeciesBook::new(Vec::new(alloc), surface, dentates))
+}
+
+/// The lattice of these neighbours of each site.
+fn lattice(alloc: Global, neighbours: &[&[SiteId]]) -> Result<Graph, Fail>
     ensures { IfOk result IsLattice }
 {
-    let neighbours = vec![in alloc;
-        Vec::new(alloc),
-        Vec::new(alloc),
-        Vec::new(alloc),
-        Vec::new(alloc),
-    ]?;
-    let types = vec![in alloc; 0u16; 4]?;
-    let graph = Graph::new(types, neighbours).ok().ok_or("a fault")?;
-    if graph.len() != 4 {
-        return Err("not four sites")?;
+    if neighbours.is_empty() || neighbours.len() > 8 {
+        return Err("no lattice of a test")?;
     }
+    let types = vec![in alloc; 0u16; neighbours.len()]?;
+    let mut lists = Vec::new(alloc);
+    for list in neighbours {
+        lists.push(Vec::from_slice(alloc, *list)?)?;
+    }
+    let graph = Graph::new(types, lists).ok().ok_or("a fault")?;
+    prove!(0 < graph.len());
     Ok(graph)
 }
 
-/// A deck of these steps on four sites at 500 K.
-fn deck(alloc: Global, plan: Plan, steps: &[PlainStep]) -> Result<PlainDeck, Fail>
+/// A deck of these steps at 500 K, of species of so many dentates.
+fn deck_of(
+    alloc: Global,
+    plan: Plan,
+    graph: Graph,
+    book: SpeciesBook,
+    dentates: &[u8],
+    steps: &[Reaction],
+) -> Result<PlainDeck, Fail>
     requires plan { IsSoundPlan plan }
+    requires lattice { IsLattice graph }
+    requires gas { book.gas ≡ [] }
+    requires dentates { book.dentates ≡ dentates.now }
+    requires some_dentates { All (λ d. (1 ≤ d) × (d ≤ 8)) dentates.now }
     requires few { length steps.now ≤ 1024 }
-    requires steps { AllByRecursion (IsSoundStep 2) steps.now }
-    ensures { IfOk result (λ deck. IsSound deck) }
+    ensures { IfOk result IsSound }
 {
-    let steps = Items::new(steps.to_vec(alloc)?);
+    let processes = Items::new(processes(alloc, steps, dentates)?);
     Ok(PlainDeck {
         temperature: 500_000,
-        graph: four_sites(alloc)?,
+        graph,
         plan,
-        book: book(alloc)?,
+        book,
         gas: 0,
-        steps,
+        processes,
     })
+}
+
+/// A deck of these steps of adsorbates of one site each, on four sites that have no neighbours.
+fn deck(alloc: Global, plan: Plan, steps: &[Reaction]) -> Result<PlainDeck, Fail>
+    requires plan { IsSoundPlan plan }
+    requires few { length steps.now ≤ 1024 }
+    ensures { IfOk result IsSound }
+{
+    let graph = lattice(alloc, &[&[], &[], &[], &[]])?;
+    deck_of(alloc, plan, graph, one_site_species(alloc)?, &[1, 1], steps)
+}
+
+/// A deck of these steps of dimers, on a lattice of these neighbours.
+fn dimer_deck(
+    alloc: Global,
+    max_steps: u64,
+    neighbours: &[&[SiteId]],
+    steps: &[Reaction],
+) -> Result<PlainDeck, Fail>
+    requires max_steps { max_steps < 2 ^ 40 }
+    requires few { length steps.now ≤ 1024 }
+    ensures { IfOk result IsSound }
+{
+    let graph = lattice(alloc, neighbours)?;
+    deck_of(
+        alloc,
+        plan(1, max_steps, None, Sampling::Off),
+        graph,
+        dimers(alloc)?,
+        &[2],
+        steps,
+    )
 }
 
 /// What a run tells at its event.
@@ -144,7 +361,7 @@ fn follow(rt: &impl Abort, alloc: Global, deck: PlainDeck, events: &[Told]) -> R
     let mut closed = Closed::start(alloc, deck)?;
     for (event, row) in events.iter().enumerate() {
         assert_eq!(rt; closed.event(), event as u64);
-        assert_eq!(rt; told(&closed), *row, "event {event}");
+        assert_eq!(rt; told(&closed), *row);
         match closed.fire() {
             Fired::Next(open) => closed = listed(rt, alloc, open)?,
             Fired::Ended(ended, stop) => {
@@ -161,9 +378,9 @@ fn follow(rt: &impl Abort, alloc: Global, deck: PlainDeck, events: &[Told]) -> R
 #[test]
 fn waits_of_one(rt: HostRuntime) -> Result<(), Fail> {
     let alloc = rt.alloc();
-    let stay = step(None, None, AT_ONCE, 0);
-    let adsorb = step(None, Some(A), AT_ONCE, 0);
-    let never = step(None, Some(A), None, 0);
+    let stay = step(FREE, FREE, AT_ONCE, 0);
+    let adsorb = step(FREE, ON_A, AT_ONCE, 0);
+    let never = step(FREE, ON_A, None, 0);
 
     // The instance that fired is there again, and waits anew; the others keep their times.
     let stop = follow(
@@ -216,8 +433,8 @@ fn waits_of_one(rt: HostRuntime) -> Result<(), Fail> {
 #[test]
 fn two_species(rt: HostRuntime) -> Result<(), Fail> {
     let alloc = rt.alloc();
-    let adsorb = step(None, Some(A), AT_ONCE, 0);
-    let turn = step(Some(A), Some(B), AT_ONCE, 0);
+    let adsorb = step(FREE, ON_A, AT_ONCE, 0);
+    let turn = step(ON_A, ON_B, AT_ONCE, 0);
     let stop = follow(
         &rt,
         alloc,
@@ -240,8 +457,8 @@ fn two_species(rt: HostRuntime) -> Result<(), Fail> {
 #[test]
 fn drawn_waits(rt: HostRuntime) -> Result<(), Fail> {
     let alloc = rt.alloc();
-    let adsorb = step(None, Some(A), USUAL, 1_000_000_000);
-    let desorb = step(Some(A), None, USUAL, 1_050_000_000);
+    let adsorb = step(FREE, ON_A, USUAL, 1_000_000_000);
+    let desorb = step(ON_A, FREE, USUAL, 1_050_000_000);
     let stop = follow(
         &rt,
         alloc,
@@ -298,8 +515,8 @@ fn drawn_waits(rt: HostRuntime) -> Result<(), Fail> {
 #[test]
 fn early_stops(rt: HostRuntime) -> Result<(), Fail> {
     let alloc = rt.alloc();
-    let adsorb = step(None, Some(A), USUAL, 1_000_000_000);
-    let desorb = step(Some(A), None, USUAL, 1_050_000_000);
+    let adsorb = step(FREE, ON_A, USUAL, 1_000_000_000);
+    let desorb = step(ON_A, FREE, USUAL, 1_050_000_000);
     let steps = [adsorb, desorb];
     let events = [
         (0, [0, 0], Some((58_394_940_709_334, 0))),
@@ -326,5 +543,118 @@ fn early_stops(rt: HostRuntime) -> Result<(), Fail> {
     let behind = plan(258, 8, Some(58_394_940_709_333), Sampling::Off);
     let stop = follow(&rt, alloc, deck(alloc, behind, &steps)?, &events[..1])?;
     assert_eq!(rt; stop, Stop::Horizon);
+    Ok(())
+}
+
+// A dimer is counted once, by its dentate 1. Site 3 has slot 1 among the neighbours 0 and 3 of site 2.
+#[test]
+fn dimers_on_a_square(rt: HostRuntime) -> Result<(), Fail> {
+    let alloc = rt.alloc();
+    let square: &[&[SiteId]] = &[
+        &[SiteId(1), SiteId(2)],
+        &[SiteId(0), SiteId(3)],
+        &[SiteId(0), SiteId(3)],
+        &[SiteId(1), SiteId(2)],
+    ];
+    let adsorb = Reaction {
+        edges: &[(1, 2)],
+        before: &[Wanted::Vacant, Wanted::Vacant],
+        after: &[FIRST, LAST],
+        factor: AT_ONCE,
+        activation: 0,
+    };
+    let stop = follow(
+        &rt,
+        alloc,
+        dimer_deck(alloc, 10, square, &[adsorb])?,
+        &[
+            (0, [0, 0], Some((1, 0))),
+            (1, [1, 0], Some((1, 2 * SITE + SECOND))),
+            (1, [2, 0], None),
+        ],
+    )?;
+    assert_eq!(rt; stop, Stop::Still);
+    Ok(())
+}
+
+// The vertices are placed in the order 1, 3, 2: a dimer adsorbs on vertices 3 and 2 beside a vacant vertex 1. On the
+// ring 0 1 4 3 2 the sites 0, 3, 2 come before 0, 4, 1, and their code after it. A dimer desorbs as a whole.
+#[test]
+fn dimers_on_a_ring(rt: HostRuntime) -> Result<(), Fail> {
+    let alloc = rt.alloc();
+    let ring: &[&[SiteId]] = &[
+        &[SiteId(1), SiteId(2)],
+        &[SiteId(0), SiteId(4)],
+        &[SiteId(0), SiteId(3)],
+        &[SiteId(2), SiteId(4)],
+        &[SiteId(1), SiteId(3)],
+    ];
+    let adsorb = Reaction {
+        edges: &[(1, 3), (2, 3)],
+        before: &[Wanted::Vacant, Wanted::Vacant, Wanted::Vacant],
+        after: &[Wanted::Vacant, LAST, FIRST],
+        factor: AT_ONCE,
+        activation: 0,
+    };
+    let desorb = Reaction {
+        edges: &[(1, 2)],
+        before: &[FIRST, LAST],
+        after: &[Wanted::Vacant, Wanted::Vacant],
+        factor: AT_ONCE,
+        activation: 0,
+    };
+    let stop = follow(
+        &rt,
+        alloc,
+        dimer_deck(alloc, 5, ring, &[adsorb, desorb])?,
+        &[
+            (0, [0, 0], Some((1, THIRD))),
+            (1, [1, 0], Some((1, SECOND + THIRD))),
+            (1, [2, 0], Some((2, PROCESS + SITE + SECOND))),
+            (2, [1, 0], Some((2, PROCESS + 2 * SITE + SECOND))),
+            (2, [0, 0], Some((3, THIRD))),
+            (3, [1, 0], Some((3, SECOND + THIRD))),
+        ],
+    )?;
+    assert_eq!(rt; stop, Stop::Steps);
+    Ok(())
+}
+
+// A dimer walks round a triangle: its dentate 1 follows to the site of dentate 2, which goes on to the vacant site.
+#[test]
+fn dimers_on_a_triangle(rt: HostRuntime) -> Result<(), Fail> {
+    let alloc = rt.alloc();
+    let triangle: &[&[SiteId]] = &[
+        &[SiteId(1), SiteId(2)],
+        &[SiteId(0), SiteId(2)],
+        &[SiteId(0), SiteId(1)],
+    ];
+    let adsorb = Reaction {
+        edges: &[(1, 2)],
+        before: &[Wanted::Vacant, Wanted::Vacant],
+        after: &[FIRST, LAST],
+        factor: AT_ONCE,
+        activation: 0,
+    };
+    let walk = Reaction {
+        edges: &[(1, 3), (2, 3)],
+        before: &[FIRST, Wanted::Vacant, LAST],
+        after: &[Wanted::Vacant, LAST, FIRST],
+        factor: AT_ONCE,
+        activation: 0,
+    };
+    let stop = follow(
+        &rt,
+        alloc,
+        dimer_deck(alloc, 4, triangle, &[adsorb, walk])?,
+        &[
+            (0, [0, 0], Some((1, 0))),
+            (1, [1, 0], Some((2, PROCESS + THIRD))),
+            (2, [1, 0], Some((3, PROCESS + SITE + SECOND))),
+            (3, [1, 0], Some((4, PROCESS + 2 * SITE))),
+            (4, [1, 0], Some((5, PROCESS + THIRD))),
+        ],
+    )?;
+    assert_eq!(rt; stop, Stop::Steps);
     Ok(())
 }

@@ -1,12 +1,17 @@
-ghost use Rattle.std.specs.Prelude.{◌≡◌, ◌≢◌, ◌+◌, ◌<◌, IfOk, IfErr, OnOk, OnErr, IsSomeAnd, Some};
+ghost use Rattle.std.specs.Prelude.{◌≡◌, ◌≢◌, ◌+◌, ◌<◌, Contains, IfOk, IfErr, OnOk, OnErr, IsSomeAnd, Some, length, map};
 ghost use Rattle.kmc_base.specs.Entries.{least as least_of};
-ghost use Rattle.kmc_core.specs.OneSite.{trajectory_of};
+ghost use Rattle.kmc_core.specs.Deck.{IsSound, dentates_in};
+ghost use Rattle.kmc_core.specs.PlainSystem.{system_of, trajectory_of};
+ghost use Rattle.lattice_core.specs.Config.{IsWellFormed};
+ghost use Rattle.lattice_core.specs.Lattice.{site_count};
 
 use crate::closed::Closed;
 use crate::deck::PlainDeck;
-use crate::{listing, renewal};
-use kmc_base::{Entry, OutOfMemory, SpeciesId};
+use crate::{firing, listing, renewal};
+use kmc_base::{Entry, OutOfMemory};
+use lattice_core::Config;
 use named_draws::Draws;
+use pattern_list::decode;
 use std::alloc::Global;
 use std::marker::Model;
 
@@ -25,7 +30,7 @@ pub struct Unclosed {
     event: u64,
     // The time of the event and the code that fired.
     first: (u128, u128),
-    sites: Vec<Option<SpeciesId>>,
+    config: Config,
     // The entries before the event, and those after it once they are there.
     entries: Vec<Entry>,
     renewed: Option<Vec<Entry>>,
@@ -42,7 +47,21 @@ impl Model for Unclosed {
 
     ghost view = { λ u. record { deck = u.deck; event = u.event; undone = if is_some u.renewed then 0 else 1 } };
 
-    ghost invariant = { λ u. IsOpenAt u.deck u.event u.first u.sites.items u.entries.items (option_map (λ v. v.items) u.renewed) };
+    ghost invariant = { λ u. IsOpenAt u.deck u.event u.first u.config u.entries.items (option_map (λ v. v.items) u.renewed) };
+}
+
+/// Fires the instance of a code on a configuration that offers it. It takes no memory.
+fn fire_code(config: &mut Config, deck: &PlainDeck, code: u128)
+    requires deck { IsSound deck.now }
+    requires configuration { length config.old ≡ site_count deck.now.graph }
+    requires offered { Contains (map (λ offer. offer.0) ((system_of deck.now).offers config.old)) code }
+    requires well_formed { IsWellFormed (dentates_in deck.now.book) config.old }
+    ensures states { config.new ≡ (system_of deck.now).fires config.old code }
+    ensures well_formed { IsWellFormed (dentates_in deck.now.book) config.new }
+{
+    let process = listing::process_of(deck, code);
+    let placement = decode(&deck.graph, &process.before, code);
+    firing::fire(config, &deck.book, process, placement.sites());
 }
 
 impl Unclosed {
@@ -55,17 +74,16 @@ impl Unclosed {
         let Closed {
             deck,
             event,
-            mut sites,
+            mut config,
             entries,
             ..
         } = closed;
-        let (site, state) = listing::change_of(&deck, first.1);
-        sites[site] = state;
+        fire_code(&mut config, &deck, first.1);
         Unclosed {
             deck,
             event: event + 1,
             first,
-            sites,
+            config,
             entries,
             renewed: None,
         }
@@ -85,7 +103,7 @@ impl Unclosed {
         ensures ok { OnOk result (self.new ≡ record self.old { undone = 0 }) }
         ensures err { OnErr result (self.new ≡ self.old) }
     {
-        let offers = listing::instances(alloc, &self.deck, &self.sites)?;
+        let offers = listing::instances(alloc, &self.deck, &self.config)?;
         let mut draws = Draws::new(self.deck.plan.seed);
         self.renewed = Some(renewal::renew(
             alloc,
@@ -107,7 +125,7 @@ impl Unclosed {
             deck,
             event,
             first,
-            sites,
+            config,
             entries,
             renewed,
         } = self;
@@ -116,7 +134,7 @@ impl Unclosed {
                 deck,
                 event,
                 time: first.0,
-                sites,
+                config,
                 entries,
             }),
             None => Err((
@@ -124,7 +142,7 @@ impl Unclosed {
                     deck,
                     event,
                     first,
-                    sites,
+                    config,
                     entries,
                     renewed,
                 },

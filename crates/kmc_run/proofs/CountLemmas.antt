@@ -4,14 +4,15 @@ use Rattle.std.proofs.lemmas.List.{map-append}
 use Rattle.std.specs.List.{range_with_len}
 use Rattle.std.specs.Prelude.{count_by, IfSome, IsSomeAnd}
 use Rattle.species_book.specs.Book.{species}
-use Rattle.kmc_core.specs.OneSite.{State, same_state}
+use Rattle.kmc_core.specs.PlainSystem.{is_home_of}
 use Rattle.kmc_core.specs.Trajectory.{Snapshot}
 use Rattle.kmc_core.specs.declared.deck.PlainDeck.{PlainDeck}
+use Rattle.lattice_core.specs.declared.state.State.{State}
 use Rattle.kmc_run.specs.Samples.{adsorbates}
 
--- how many sites hold a species
+-- how many adsorbates of a species there are
 abbrev pub count_of : List State → ℕ → ℕ
-count_of sites place = count_by (same_state (Some (species place))) sites
+count_of sites place = count_by (is_home_of (species place)) sites
 
 -- the counts of so many species, from the first on
 abbrev pub counts_of : ℕ → List State → List ℕ

@@ -1,13 +1,7 @@
 pub mod CountLemmas
-pub mod DigitLemmas
 pub mod DriveLemmas
 pub mod EventLemmas
-pub mod PlainLines
-pub mod PlainNumbers
-pub mod PlainPhrases
-pub mod PlainReads
-pub mod PlainRows
-pub mod PlainSteps
+pub mod PlainProcesses
 pub mod ReadLemmas
 pub mod SampleLemmas
 pub mod WriteLemmas

@@ -1,8 +1,8 @@
 -- Readings one after another, and what a sound simulation file gives.
-use Rattle.std.proofs.Common.{◌≡◌, ◌≤◌, ℕ, Bool, true, false, ◌&&◌, ◌||◌, not, List, [], ◌∷◌, length, map, Option, None, Some, Result, Ok, Err, IfErr, IfOk, IsTrue, refl, sym, ap, ◌∙◌, arith}
+use Rattle.std.proofs.Common.{◌≡◌, ◌≤◌, ℕ, Bool, true, false, ◌&&◌, ◌||◌, not, List, [], ◌∷◌, length, map, Some, Result, Ok, Err, IsTrue, refl, sym, ap, ◌∙◌, arith}
 use Rattle.std.proofs.lemmas.List.{length-map}
 use Rattle.std.specs.List.{AllByRecursion}
-use Rattle.std.specs.Prelude.{is_none, unwrap_or}
+use Rattle.std.specs.Prelude.{unwrap_or}
 use Rattle.deck_shape.specs.Blocks.{BlockLines}
 use Rattle.deck_shape.specs.LineFaults.{block_of_text}
 use Rattle.deck_shape.specs.Reading.{first_block}
@@ -15,21 +15,22 @@ use Rattle.deck_shape.specs.declared.table.BlockKind.{BlockKind}
 use Rattle.deck_shape.specs.declared.table.BlockKind.TheVariants.{Simulation as SimulationBlock, LatticeFile as LatticeBlock}
 use Rattle.kmc_base.specs.declared.ids.FileId.{FileId}
 use Rattle.kmc_base.specs.declared.ids.FileId.TheVariants.{Simulation, Lattice, Energetics, Mechanism}
-use Rattle.kmc_core.specs.Deck.{IsSound, IsSoundStep}
+use Rattle.kmc_core.specs.Deck.{IsSound}
 use Rattle.kmc_core.specs.declared.deck.PlainDeck.{PlainDeck}
-use Rattle.kmc_core.specs.declared.deck.PlainStep.{PlainStep}
+use Rattle.kmc_core.specs.declared.deck.PlainProcess.{PlainProcess}
 use Rattle.deck_shape.specs.Lists.{names_repeat}
 use Rattle.lattice_core.specs.Lattice.{IsLattice, Lattice as SiteLattice}
 use Rattle.lattice_deck.specs.Parts.{LatticeValues, part_of as lattice_part_of}
+use Rattle.plain_files.specs.Energetics.{is_plain_energetics}
+use Rattle.plain_files.specs.Mechanism.{steps_of}
+use Rattle.plain_files.specs.Steps.{IsPlainStep, Step}
 use Rattle.sim_deck.specs.Soundness.{IsSoundPart}
-use Rattle.sim_deck.specs.Values.{SimValues, part_of, values_at}
+use Rattle.sim_deck.specs.Values.{SimValues, part_of}
 use Rattle.sim_deck.specs.declared.part.Sampling.{Sampling}
 use Rattle.sim_deck.specs.declared.part.Sampling.TheVariants.{Off, Event, Time}
-use Rattle.sim_deck.specs.declared.part.SimPart.{SimPart}
 use Rattle.species_book.specs.Book.{Book, are_distinct}
-use Rattle.kmc_run.specs.PlainDecks.{Reads, and_then, book_of, built_in, deck_with, in_file, is_built, is_off, is_on_time, plain_deck, plain_step, types_in, values_in, words_of}
-use Rattle.kmc_run.specs.PlainMechanism.{IsPlainStep, Step, is_plain_energetics, steps_of}
-use Rattle.kmc_run.specs.PlainText.{found_if}
+use Rattle.kmc_run.proofs.PlainProcesses.{sound_steps}
+use Rattle.kmc_run.specs.PlainDecks.{Reads, and_then, book_of, built_in, deck_with, in_file, is_built, is_off, is_on_time, passes, plain_deck, plain_process, types_in, values_in}
 use Rattle.kmc_run.specs.Samples.{IsWritten}
 
 -- a reading failed
@@ -153,26 +154,16 @@ written values e =
     let a = and_true (is_off values.plan.history) _ e in
     let b = and_true (is_off values.plan.procstat) _ a.1 in
     let c = and_true (not (is_on_time values.plan.specnum)) _ b.1 in
-    let d = and_true _ _ c.1 in
-    record { history = off_is _ a.0; procstat = off_is _ b.0; specnum = not_true _ c.0; max_time = none_is _ d.0 }
+    record { history = off_is _ a.0; procstat = off_is _ b.0; specnum = not_true _ c.0 }
   where
-    none_is : {X : Type 0} (o : Option X) → is_none o ≡ true → o ≡ None
-    none_is None e = refl
-    none_is (Some x) e = absurd (let f : ⊥ = cc in f)
-
     not_true : (x : Bool) → not x ≡ true → x ≡ false
     not_true true e = absurd (let f : ⊥ = cc in f)
     not_true false e = refl
 
--- steps of the plain form are sound in the deck
-pub sound_steps : (count : ℕ) (steps : List Step) → AllByRecursion (IsPlainStep count) steps → AllByRecursion (IsSoundStep count) (map plain_step steps)
-sound_steps count [] all = tt
-sound_steps count (step ∷ steps) all = (record { before = all.0.before; after = all.0.after; activation = omega (arith, all.0.activation) }, sound_steps count steps all.1)
-
 -- the deck of a sound simulation file and a lattice is sound
-pub sound_deck : (values : SimValues) (book : Book) (graph : SiteLattice) (gas : ℕ) (steps : List Step) (joined : List PlainStep) → IsSoundPart values → book ≡ book_of values → gas ≡ length book.gas →
-    IsLattice graph → length steps ≤ 16 → AllByRecursion (IsPlainStep (length book.surface)) steps → joined ≡ map plain_step steps →
-    IsSound (record { temperature = values.temperature; graph = graph; plan = values.plan; book = book; gas = gas; steps = joined })
+pub sound_deck : (values : SimValues) (book : Book) (graph : SiteLattice) (gas : ℕ) (steps : List Step) (joined : List PlainProcess) → IsSoundPart values → book ≡ book_of values → gas ≡ length book.gas →
+    IsLattice graph → length steps ≤ 16 → AllByRecursion (IsPlainStep book) steps → joined ≡ map plain_process steps →
+    IsSound (record { temperature = values.temperature; graph = graph; plan = values.plan; book = book; gas = gas; processes = joined })
 sound_deck values book graph gas steps joined sound is gases lattice few plain all = record {
   some_temperature = sound.some_temperature;
   temperature = sound.temperature;
@@ -180,16 +171,13 @@ sound_deck values book graph gas steps joined sound is gases lattice few plain a
   plan = sound.plan;
   gas = gases;
   dentates = rw is sound.dentates;
-  few_steps = omega (arith, ap length all, length-map steps plain_step);
-  steps = rw all (sound_steps (length book.surface) steps plain);
+  few_processes = omega (arith, ap length all, length-map steps plain_process);
+  processes = rw all (sound_steps book (record { range = rw is sound.dentates; one_each = rw is (sound.one_number_each ∙ sym (length-map values.surface (λ name. name.word.bytes))) }) steps plain);
 }
 
 -- one file after the other is of a form that is built, or is the first that is not
 abbrev pub Fails : DeckFault → Result PlainDeck Fault → Type 0
 Fails e given = Reads (λ (deck : PlainDeck). deck) (Err e) given
-
-abbrev pub passes : Bool → FileId → Result (Unit {0}) Fault
-passes built file = built_in file (found_if built (tt {0}))
 
 pub fails_simulation : (values : SimValues) (g : SiteLattice) (e m : List ℕ) (built : Bool) (fault : DeckFault) → built ≡ is_built values →
     Reads (λ (u : Unit {0}). tt {0}) (Err fault) (passes built Simulation) → Fails fault (deck_with values g e m)
@@ -203,12 +191,12 @@ fails_energetics values g e m built plain fault is first is2 no_file =
     rw (← is, first, ← is2) (reads_err (λ (u : Unit {0}). tt {0}) (λ deck. deck) fault _ _ no_file)
 
 -- the two first files are of the form that is built
-pub with_steps : (values : SimValues) (g : SiteLattice) (e m : List ℕ) (built plain : Bool) (names : List (List ℕ)) → built ≡ is_built values → passes built Simulation ≡ Ok tt →
-    plain ≡ is_plain_energetics e → passes plain Energetics ≡ Ok tt → names ≡ words_of values.surface →
-    deck_with values g e m ≡ and_then (built_in Mechanism (steps_of names m)) (λ steps. Ok (plain_deck values g steps))
+pub with_steps : (values : SimValues) (g : SiteLattice) (e m : List ℕ) (built plain : Bool) (book : Book) → built ≡ is_built values → passes built Simulation ≡ Ok tt →
+    plain ≡ is_plain_energetics e → passes plain Energetics ≡ Ok tt → book ≡ book_of values →
+    deck_with values g e m ≡ and_then (built_in Mechanism (steps_of book m)) (λ steps. Ok (plain_deck values g steps))
 unfolding deck_with
-with_steps values g e m built plain names is first is2 next is3 = rw (← is, first, ← is2, next, is3) refl
+with_steps values g e m built plain book is first is2 next is3 = rw (← is, first, ← is2, next, is3) refl
 
-pub fails_mechanism : {X : Type 0} (v : X → List Step) (values : SimValues) (m : List ℕ) (g : SiteLattice) (names : List (List ℕ)) (given : Result PlainDeck Fault) (fault : DeckFault) →
-    given ≡ and_then (built_in Mechanism (steps_of names m)) (λ steps. Ok (plain_deck values g steps)) → Reads v (Err fault) (built_in Mechanism (steps_of names m)) → Fails fault given
-fails_mechanism v values m g names given fault is no_file = rw is (reads_err v (λ deck. deck) fault _ _ no_file)
+pub fails_mechanism : {X : Type 0} (v : X → List Step) (values : SimValues) (m : List ℕ) (g : SiteLattice) (book : Book) (given : Result PlainDeck Fault) (fault : DeckFault) →
+    given ≡ and_then (built_in Mechanism (steps_of book m)) (λ steps. Ok (plain_deck values g steps)) → Reads v (Err fault) (built_in Mechanism (steps_of book m)) → Fails fault given
+fails_mechanism v values m g book given fault is no_file = rw is (reads_err v (λ deck. deck) fault _ _ no_file)

@@ -1,13 +1,13 @@
 -- The samples of a run.
 use Rattle.std.proofs.Common.{◌≡◌, ◌≢◌, ℕ, ◌/◌, ◌%◌, cond, List, [], ◌∷◌, Option, None, Some, sym, ap, ◌∙◌}
-use Rattle.std.proofs.lemmas.Bool.{eq-eqb}
+use Rattle.std.proofs.lemmas.Bool.{eq-eqb, ne_eqb}
 use Rattle.std.specs.Option.{IsSomeAnd, option_map_or}
 use Rattle.std.specs.Prelude.{IfSome, replicate}
 use Rattle.kmc_base.specs.declared.ids.OutId.TheVariants.{Specnum}
-use Rattle.kmc_core.specs.OneSite.{State, trajectory_of}
+use Rattle.kmc_core.specs.PlainSystem.{trajectory_of}
 use Rattle.kmc_core.specs.Trajectory.{Snapshot}
 use Rattle.kmc_core.specs.declared.deck.PlainDeck.{PlainDeck}
-use Rattle.kmc_run.proofs.PlainNumbers.{not_eqb}
+use Rattle.lattice_core.specs.declared.state.State.{State}
 use Rattle.kmc_run.specs.Samples.{adsorbates, event_period, sample_at, sample_line, writes_at, writes_before}
 use Rattle.kmc_run.specs.Specnum.{specnum_head, specnum_line}
 use Rattle.kmc_run.specs.Writes.{Append, Begin}
@@ -45,7 +45,7 @@ writes_none deck event is = at_period deck event None is
 pub writes_not_due : (deck : PlainDeck) (event period : ℕ) → event_period deck.plan.specnum ≡ Some period → event % period ≢ 0 → writes_at deck event ≡ []
 writes_not_due deck event period is not_due =
     at_period deck event (Some period) is
-    ∙ ap (λ b. cond b (option_map_or (λ s. Append Specnum (sample_line deck period event s) ∷ []) (trajectory_of deck event) []) []) (not_eqb (event % period) 0 not_due)
+    ∙ ap (λ b. cond b (option_map_or (λ s. Append Specnum (sample_line deck period event s) ∷ []) (trajectory_of deck event) []) []) (ne_eqb (event % period) 0 not_due)
 
 -- what is written at an event at which a sample is due
 pub writes_due : (deck : PlainDeck) (event period : ℕ) (text : List ℕ) → event_period deck.plan.specnum ≡ Some period → event % period ≡ 0 →

@@ -1,12 +1,10 @@
 -- Writes one after another.
-use Rattle.std.proofs.Common.{◌≡◌, ℕ, ◌≤◌, List, [], ◌∷◌, ◌++◌, Option, None, Some, Result, Ok, Err, IfErr, OnOk, refl, sym, ap, ◌∙◌, subst, arith}
+use Rattle.std.proofs.Common.{◌≡◌, ℕ, List, [], ◌∷◌, ◌++◌, Option, None, Some, Result, Ok, Err, IfErr, OnOk, refl, sym, ap, ◌∙◌, subst}
 use Rattle.std.proofs.lemmas.List.{append_assoc}
-use Rattle.kmc_base.specs.Files.{Files}
 use Rattle.kmc_base.specs.Outs.{Outs}
 use Rattle.kmc_base.specs.Told.{Tells}
-use Rattle.kmc_base.specs.declared.ids.FileId.{FileId}
 use Rattle.kmc_base.specs.declared.ids.OutId.{OutId}
-use Rattle.kmc_run.specs.Writes.{Write, Append, Done, Ended, MayWrite, OnlyWrites, Stops, all_written, out_of, written}
+use Rattle.kmc_run.specs.Writes.{Write, Append, Done, Ended, MayWrite, Stops, all_written, out_of, written}
 use Rattle.kmc_run.specs.declared.drive_fault.DriveFault.{DriveFault}
 use Rattle.kmc_run.specs.declared.drive_fault.DriveFault.TheVariants.{WriteFault, OutOfMemory}
 
@@ -102,14 +100,3 @@ ok_as a b x y r is p = subst (λ (ws : List Write). OnOk r (Done ws x y)) is p
 
 pub err_as : (a b : List Write) (x y : Option Outs) (r : Result (Unit {0}) DriveFault) → a ≡ b → IfErr r (λ fault. Ended a fault x y) → IfErr r (λ fault. Ended b fault x y)
 err_as a b x y r is p = subst (λ (ws : List Write). IfErr r (λ fault. Ended ws fault x y)) is p
-
--- writes and then others keep what both keep
-pub only_writes_then : (f f' f'' : Option Files) (r r' r'' : FileId → ℕ) (w w' w'' : OutId → ℕ) → OnlyWrites f f' r r' w w' → OnlyWrites f' f'' r' r'' w' w'' → OnlyWrites f f'' r r'' w w''
-only_writes_then f f' f'' r r' r'' w w' w'' p q = record {
-  files = q.files ∙ p.files;
-  reads = λ k. le-trans (p.reads k) (q.reads k);
-  writes = λ k. le-trans (p.writes k) (q.writes k);
-}
-  where
-    le-trans : {a b c : ℕ} → a ≤ b → b ≤ c → a ≤ c
-    le-trans p q = omega arith

@@ -1,12 +1,11 @@
 -- What the program may answer, and what it leaves in the outputs.
-use Rattle.std.specs.Prelude.{◌≡◌, ℕ, [], ◌∷◌, Bool, false, List, Option, Result, Ok, Err, codes}
+use Rattle.std.specs.Prelude.{◌≡◌, ℕ, [], ◌∷◌, Bool, false, List, Option, None, Some, Result, Ok, Err, codes}
+use Rattle.deck_shape.specs.Tables.{same_word}
 use Rattle.deck_shape.specs.declared.fault.Fault.{Fault}
-use Rattle.kmc_base.specs.Faults.{Rose}
 use Rattle.kmc_base.specs.Outs.{Outs}
 use Rattle.kmc_base.specs.declared.ids.FileId.{FileId}
 use Rattle.kmc_base.specs.declared.ids.OutId.{OutId}
 use Rattle.kmc_core.specs.declared.deck.PlainDeck.{PlainDeck}
-use Rattle.kmc_run.specs.PlainText.{same_word}
 use Rattle.kmc_run.specs.Samples.{writes_of}
 use Rattle.kmc_run.specs.Writes as writing
 use Rattle.kmc_run.specs.declared.drive_fault.DriveFault.TheVariants.{WriteFault as WriteFailed, OutOfMemory as NoMemory}
@@ -19,15 +18,25 @@ are_right (word ∷ []) = same_word word (codes "run")
 are_right [] = false
 are_right (word ∷ next ∷ others) = false
 
--- A fault of reading or writing has a cause: the count of faults of that file or output has risen.
-abbrev pub HasCause : (reads_then reads_now : FileId → ℕ) (writes_then writes_now : OutId → ℕ) → Status → Type 0
-HasCause reads_then reads_now writes_then writes_now (ReadFault file) = Rose (reads_then file) (reads_now file)
-HasCause reads_then reads_now writes_then writes_now (WriteFault out) = Rose (writes_then out) (writes_now out)
-HasCause reads_then reads_now writes_then writes_now Done = Unit {0}
-HasCause reads_then reads_now writes_then writes_now BadWords = Unit {0}
-HasCause reads_then reads_now writes_then writes_now (Refused fault) = Unit {0}
-HasCause reads_then reads_now writes_then writes_now ScreenFault = Unit {0}
-HasCause reads_then reads_now writes_then writes_now OutOfMemory = Unit {0}
+-- the file that could not be read, by a status
+abbrev pub failed_read : Status → Option FileId
+failed_read (ReadFault file) = Some file
+failed_read Done = None
+failed_read BadWords = None
+failed_read (Refused fault) = None
+failed_read (WriteFault out) = None
+failed_read ScreenFault = None
+failed_read OutOfMemory = None
+
+-- the output that could not be written, by a status
+abbrev pub failed_write : Status → Option OutId
+failed_write (WriteFault out) = Some out
+failed_write Done = None
+failed_write BadWords = None
+failed_write (Refused fault) = None
+failed_write (ReadFault file) = None
+failed_write ScreenFault = None
+failed_write OutOfMemory = None
 
 -- What a run over right words may answer, by what its files stand for. A deck is run: the answer is Done, or a fault of
 -- reading or writing, or want of memory. Files with a fault are refused with the first, unless reading failed or memory

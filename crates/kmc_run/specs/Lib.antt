@@ -1,9 +1,5 @@
 pub mod Answers
 pub mod PlainDecks
-pub mod PlainMechanism
-pub mod PlainNames
-pub mod PlainText
-pub mod PlainViews
 pub mod Samples
 pub mod Specnum
 pub mod Statuses

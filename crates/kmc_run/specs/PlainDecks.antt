@@ -1,6 +1,5 @@
 -- The deck that four texts stand for, or its first fault.
-use Rattle.std.specs.Prelude.{◌≡◌, ℕ, ◌*◌, ◌^◌, ◌&&◌, Bool, true, false, not, List, map, Option, None, Some, Result, Ok, Err, is_none, length, nat_le, pos}
-use Rattle.std.specs.List.{list_all}
+use Rattle.std.specs.Prelude.{◌≡◌, ℕ, ◌*◌, ◌^◌, ◌&&◌, Bool, true, false, not, List, [], ◌∷◌, map, Option, None, Some, Result, Ok, Err, if◌then◌else◌, is_none, length, pos}
 use Rattle.deck_shape.specs.LineFaults.{block_of_text}
 use Rattle.deck_shape.specs.Names.{NameWord}
 use Rattle.deck_shape.specs.declared.fault.DeckFault.{DeckFault}
@@ -11,18 +10,23 @@ use Rattle.deck_shape.specs.declared.table.BlockKind.TheVariants.{Simulation as 
 use Rattle.fixed_math.specs.DecimalLogarithm.{lg_of_decimal}
 use Rattle.kmc_base.specs.Files.{Files}
 use Rattle.kmc_base.specs.declared.ids.FileId.{FileId}
+use Rattle.kmc_base.specs.declared.ids.SpeciesId.{SpeciesId}
 use Rattle.kmc_base.specs.declared.ids.FileId.TheVariants.{Simulation, Lattice, Energetics, Mechanism}
 use Rattle.kmc_core.specs.declared.deck.PlainDeck.{PlainDeck}
-use Rattle.kmc_core.specs.declared.deck.PlainStep.{PlainStep}
+use Rattle.kmc_core.specs.declared.deck.PlainProcess.{PlainProcess}
 use Rattle.lattice_core.specs.Lattice.{Lattice as SiteLattice}
 use Rattle.lattice_deck.specs.Parts.{LatticeValues, part_of as lattice_part_of}
 use Rattle.lattice_deck.specs.Types.{unknown_type}
+use Rattle.plain_files.specs.Energetics.{is_plain_energetics}
+use Rattle.plain_files.specs.Mechanism.{steps_of}
+use Rattle.plain_files.specs.Steps.{Step}
+use Rattle.pattern_types.specs.Parts.{PatternParts, pattern_of}
+use Rattle.pattern_types.specs.declared.wanted.Wanted.{Wanted}
+use Rattle.pattern_types.specs.declared.wanted.Wanted.TheVariants.{Vacant, Holds}
 use Rattle.sim_deck.specs.Values.{SimValues, part_of}
 use Rattle.sim_deck.specs.declared.part.Sampling.{Sampling}
 use Rattle.sim_deck.specs.declared.part.Sampling.TheVariants.{Off, Event, Time}
 use Rattle.species_book.specs.Book.{Book}
-use Rattle.kmc_run.specs.PlainMechanism.{Step, is_plain_energetics, steps_of}
-use Rattle.kmc_run.specs.PlainText.{found_if}
 use Rattle.kmc_run.specs.Texts.{texts_of}
 use Rattle.kmc_run.specs.declared.texts.Text.{Text}
 use Rattle.kmc_run.specs.declared.texts.Text.TheVariants.{Absent, TooLong, Bytes}
@@ -57,6 +61,10 @@ abbrev pub built_in : {X : Type 0} → FileId → Option X → Result X Fault
 built_in file None = Err (not_built file)
 built_in file (Some x) = Ok x
 
+-- nothing, where a file is of a form that is built
+abbrev pub passes : Bool → FileId → Result (Unit {0}) Fault
+passes built file = if built then Ok tt else Err (not_built file)
+
 -- nothing, or a fault
 abbrev pub unless_fault : Option (ℕ × ℕ) → Result (Unit {0}) (ℕ × ℕ)
 unless_fault None = Ok tt
@@ -90,13 +98,11 @@ is_on_time (Event period) = false
 is_on_time (Time period) = true
 
 -- A simulation file is built where it has no snapshots and no process statistics, species numbers are not sampled at
--- times, the time has no end, and no species has several dentates.
+-- times, and the time has no end.
 unfoldable pub is_built : SimValues → Bool
 is_built values =
     is_off values.plan.history
-    && (is_off values.plan.procstat
-    && (not (is_on_time values.plan.specnum)
-    && (is_none values.plan.max_time && list_all (λ dentates. nat_le dentates 1) values.dentates)))
+    && (is_off values.plan.procstat && (not (is_on_time values.plan.specnum) && is_none values.plan.max_time))
 
 -- the bytes of names
 abbrev pub words_of : List NameWord → List (List ℕ)
@@ -106,11 +112,21 @@ words_of names = map (λ name. name.word.bytes) names
 abbrev pub book_of : SimValues → Book
 book_of values = record { gas = words_of values.gas; surface = words_of values.surface; dentates = values.dentates }
 
--- a step of the deck: the logarithm of its pre-exponential factor, and its activation energy in neV
-abbrev pub plain_step : Step → PlainStep
-plain_step step = record {
-  before = step.before;
-  after = step.after;
+-- what a state row wants of its site: to be vacant, or to hold an adsorbate of one dentate, which is entity 1
+abbrev pub wanted_of : Option SpeciesId → Wanted
+wanted_of None = Vacant
+wanted_of (Some species) = Holds 1 species 1
+
+-- one side of a step on one site, of any type
+abbrev pub side_of : Option SpeciesId → PatternParts
+side_of state = pattern_of [] (None ∷ []) (wanted_of state ∷ [])
+
+-- a process of the deck: both sides of a step, the logarithm of its pre-exponential factor, and its activation energy in
+-- neV
+abbrev pub plain_process : Step → PlainProcess
+plain_process step = record {
+  before = side_of step.before;
+  after = side_of step.after;
   factor = lg_of_decimal step.digits (pos step.power);
   activation = pos (step.activation * 10 ^ 9);
 }
@@ -123,16 +139,16 @@ plain_deck values lattice steps = record {
   plan = values.plan;
   book = book_of values;
   gas = length values.gas;
-  steps = map plain_step steps;
+  processes = map plain_process steps;
 }
 
 -- The deck of the values of a simulation file, a lattice and the texts of the two other files, or the first file of
--- the three that is not of a form that is built. The mechanism is read over the names of the surface species.
+-- the three that is not of a form that is built. The mechanism is read over the surface species.
 unfoldable pub deck_with : SimValues → SiteLattice → List ℕ → List ℕ → Result PlainDeck Fault
 deck_with values lattice energetics mechanism =
-    and_then (built_in Simulation (found_if (is_built values) (tt {0}))) (λ _.
-    and_then (built_in Energetics (found_if (is_plain_energetics energetics) (tt {0}))) (λ _.
-    and_then (built_in Mechanism (steps_of (words_of values.surface) mechanism)) (λ steps.
+    and_then (passes (is_built values) Simulation) (λ _.
+    and_then (passes (is_plain_energetics energetics) Energetics) (λ _.
+    and_then (built_in Mechanism (steps_of (book_of values) mechanism)) (λ steps.
     Ok (plain_deck values lattice steps))))
 
 -- The deck of four texts, or its first fault: first, file by file, whether a text is there and not too long; then the

@@ -3,10 +3,11 @@ use Rattle.std.specs.Prelude.{◌≡◌, ℕ, zero, suc, ◌+◌, ◌-◌, ◌/�
 use Rattle.std.specs.List.{flat_map, range_with_len}
 use Rattle.std.specs.Option.{option_map_or}
 use Rattle.kmc_base.specs.declared.ids.OutId.TheVariants.{Specnum}
-use Rattle.kmc_core.specs.OneSite.{State, same_state, trajectory_of}
+use Rattle.kmc_core.specs.PlainSystem.{is_home_of, trajectory_of}
 use Rattle.kmc_core.specs.Run.{stop_of}
 use Rattle.kmc_core.specs.Trajectory.{Snapshot}
 use Rattle.kmc_core.specs.declared.deck.PlainDeck.{PlainDeck}
+use Rattle.lattice_core.specs.declared.state.State.{State}
 use Rattle.sim_deck.specs.declared.part.Plan.{Plan}
 use Rattle.sim_deck.specs.declared.part.Sampling.{Sampling}
 use Rattle.sim_deck.specs.declared.part.Sampling.TheVariants.{Off, Event, Time}
@@ -15,13 +16,12 @@ use Rattle.kmc_run.specs.PlainDecks.{is_on_time}
 use Rattle.kmc_run.specs.Specnum.{specnum_head, specnum_line}
 use Rattle.kmc_run.specs.Writes.{Write, Begin, Append}
 
--- A plan whose samples are all written: there are no snapshots and no process statistics, species numbers are sampled at
--- events if at all, and the time has no end.
+-- A plan whose samples are all written: there are no snapshots and no process statistics, and species numbers are sampled
+-- at events if at all.
 pub record IsWritten (plan : Plan) : Type 0 where
   pub history : plan.history ≡ Off
   pub procstat : plan.procstat ≡ Off
   pub specnum : is_on_time plan.specnum ≡ false
-  pub max_time : plan.max_time ≡ None
 
 -- The events of a run from one on, of which at most so many follow: each next one comes where the run does not stop.
 abbrev pub events_after : PlainDeck → ℕ → ℕ → List ℕ
@@ -33,10 +33,10 @@ events_after deck (suc left) event =
 abbrev pub events_from : PlainDeck → ℕ → List ℕ
 events_from deck event = events_after deck (deck.plan.max_steps - event) event
 
--- the number of adsorbates of each surface species: of the sites that hold it
+-- the number of adsorbates of each surface species: of the sites with their dentate 1
 abbrev pub adsorbates : PlainDeck → List State → List ℕ
-adsorbates deck sites =
-    map (λ place. count_by (same_state (Some (species place))) sites) (range_with_len 0 (length deck.book.surface))
+adsorbates deck states =
+    map (λ place. count_by (is_home_of (species place)) states) (range_with_len 0 (length deck.book.surface))
 
 -- the line of the sample at an event, which shows the state and the time of that event; no gas is produced or consumed
 abbrev pub sample_line : PlainDeck → ℕ → ℕ → Snapshot (List State) → List ℕ

@@ -1,16 +1,8 @@
 -- The layout of specnum_output.txt: the numbers of adsorbates and of gas molecules.
-use Rattle.std.specs.Prelude.{ℕ, zero, suc, ◌+◌, ◌/◌, ◌%◌, ◌^◌, List, [], ◌∷◌, ◌++◌, codes}
+use Rattle.std.specs.Prelude.{ℕ, List, [], ◌∷◌, ◌++◌, codes, pos}
 use Rattle.std.specs.Fmt.{decimal}
 use Rattle.std.specs.List.{flat_map}
-
--- the lowest so many digits of a number, the highest of them first
-abbrev pub low_digits : ℕ → ℕ → List ℕ
-low_digits zero n = []
-low_digits (suc count) n = (48 + n / 10 ^ count % 10) ∷ low_digits count n
-
--- a number of units of 10^-places: the whole part, a point (46), and the places
-abbrev pub fixed_point : ℕ → ℕ → List ℕ
-fixed_point places n = decimal (n / 10 ^ places) ++ 46 ∷ low_digits places n
+use Rattle.dec_text.specs.Fixed.{fixed_text}
 
 -- a word that follows another on its line, after a space (32)
 abbrev pub next_word : List ℕ → List ℕ
@@ -32,5 +24,5 @@ specnum_head surface gas =
 -- numbers of adsorbates and of gas molecules
 unfoldable pub specnum_line : ℕ → ℕ → ℕ → ℕ → List ℕ → List ℕ → List ℕ
 specnum_line sample event time temperature surface gas =
-    decimal sample ++ next_word (decimal event) ++ next_word (fixed_point 18 time) ++ next_word (fixed_point 3 temperature)
-    ++ next_word (fixed_point 9 0) ++ next_counts surface ++ next_counts gas ++ 10 ∷ []
+    decimal sample ++ next_word (decimal event) ++ next_word (fixed_text (pos time) 18) ++ next_word (fixed_text (pos temperature) 3)
+    ++ next_word (fixed_text (pos 0) 9) ++ next_counts surface ++ next_counts gas ++ 10 ∷ []

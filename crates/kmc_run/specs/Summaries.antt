@@ -1,6 +1,6 @@
 -- What a run comes to at its last event.
 use Rattle.std.specs.Prelude.{◌≡◌, ℕ, ◌++◌, ◌∷◌, [], List, Some, IsSomeAnd, pos, replicate}
-use Rattle.kmc_core.specs.OneSite.{trajectory_of}
+use Rattle.kmc_core.specs.PlainSystem.{trajectory_of}
 use Rattle.kmc_core.specs.Run.{stop_of}
 use Rattle.kmc_core.specs.declared.deck.PlainDeck.{PlainDeck}
 use Rattle.kmc_run.specs.Samples.{adsorbates, events_from}

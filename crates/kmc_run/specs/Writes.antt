@@ -1,10 +1,7 @@
 -- The writes of a run, one after another, and what they make of the outputs.
-use Rattle.std.specs.Prelude.{◌≡◌, ℕ, List, [], ◌∷◌, ◌++◌, Option}
-use Rattle.kmc_base.specs.Faults.{NoneFell, Rose}
-use Rattle.kmc_base.specs.Files.{Files}
+use Rattle.std.specs.Prelude.{◌≡◌, ℕ, List, [], ◌∷◌, ◌++◌, Option, None, Some}
 use Rattle.kmc_base.specs.Outs.{Outs, MayAppend, MayBegin, appended, begun}
 use Rattle.kmc_base.specs.Told.{Tells}
-use Rattle.kmc_base.specs.declared.ids.FileId.{FileId}
 use Rattle.kmc_base.specs.declared.ids.OutId.{OutId}
 use Rattle.kmc_run.specs.declared.drive_fault.DriveFault.{DriveFault}
 use Rattle.kmc_run.specs.declared.drive_fault.DriveFault.TheVariants.{WriteFault, OutOfMemory}
@@ -63,13 +60,7 @@ Done writes before after = Tells before after (λ then now. now ≡ all_written 
 abbrev pub Ended : List Write → DriveFault → Option Outs → Option Outs → Type 0
 Ended writes fault before after = Tells before after (Stops writes fault)
 
--- A fault has a cause: the count of faults of the output that could not be written has risen.
-abbrev pub HasCause : (OutId → ℕ) → (OutId → ℕ) → DriveFault → Type 0
-HasCause before now (WriteFault out) = Rose (before out) (now out)
-HasCause before now OutOfMemory = Unit {0}
-
--- What a run of writes keeps: the input files stay, and no count of faults falls.
-pub record OnlyWrites (files_then files_now : Option Files) (reads_then reads_now : FileId → ℕ) (writes_then writes_now : OutId → ℕ) : Type 0 where
-  pub files : files_now ≡ files_then
-  pub reads : NoneFell reads_then reads_now
-  pub writes : NoneFell writes_then writes_now
+-- the output that could not be written, if the fault is of writing
+abbrev pub failed_output : DriveFault → Option OutId
+failed_output (WriteFault out) = Some out
+failed_output OutOfMemory = None

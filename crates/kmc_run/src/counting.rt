@@ -1,5 +1,5 @@
 ghost use Rattle.std.specs.Prelude.{◌≡◌, IfOk, IfSome, length};
-ghost use Rattle.kmc_core.specs.OneSite.{trajectory_of};
+ghost use Rattle.kmc_core.specs.PlainSystem.{trajectory_of};
 ghost use Rattle.kmc_run.specs.Samples.{adsorbates};
 
 use kmc_base::{OutOfMemory, SpeciesId};

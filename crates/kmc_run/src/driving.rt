@@ -1,11 +1,12 @@
 ghost use Rattle.std.specs.Prelude.{◌≡◌, ◌≤◌, ℕ, pos, ◌++◌, ◌∷◌, [], List, IfOk, IfErr, OnOk, IsSomeAnd, Some, replicate};
 ghost use Rattle.std.specs.List.{flat_map};
+ghost use Rattle.kmc_base.specs.Faults.{OnlyFailed, SameCounts};
 ghost use Rattle.kmc_core.specs.Deck.{IsSound};
-ghost use Rattle.kmc_core.specs.OneSite.{trajectory_of};
+ghost use Rattle.kmc_core.specs.PlainSystem.{trajectory_of};
 ghost use Rattle.kmc_core.specs.Run.{stop_of};
 ghost use Rattle.kmc_run.specs.Samples.{IsWritten, adsorbates, events_from, writes_at, writes_of};
 ghost use Rattle.kmc_run.specs.Summaries.{IsSummary};
-ghost use Rattle.kmc_run.specs.Writes.{Done, Ended, HasCause, OnlyWrites};
+ghost use Rattle.kmc_run.specs.Writes.{Done, Ended, failed_output};
 
 use crate::counting::adsorbates;
 use crate::drive_fault::DriveFault;
@@ -39,8 +40,10 @@ fn run_events<F: Folder>(
     ensures last { IfOk result (λ last. ((es : List ℕ) × (events_from start.deck start.event ≡ es ++ last.0.event ∷ []))) }
     ensures ok { OnOk result (Done (flat_map (writes_at start.deck) (events_from start.deck start.event)) (F.outs folder.old) (F.outs folder.new)) }
     ensures err { IfErr result (λ fault. Ended (flat_map (writes_at start.deck) (events_from start.deck start.event)) fault (F.outs folder.old) (F.outs folder.new)) }
-    ensures cause { IfErr result (HasCause (F.write_faults folder.old) (F.write_faults folder.new)) }
-    ensures rest { OnlyWrites (F.files folder.old) (F.files folder.new) (F.read_faults folder.old) (F.read_faults folder.new) (F.write_faults folder.old) (F.write_faults folder.new) }
+    ensures cause { IfErr result (λ fault. OnlyFailed (failed_output fault) (F.write_faults folder.old) (F.write_faults folder.new)) }
+    ensures no_fault { OnOk result (SameCounts (F.write_faults folder.old) (F.write_faults folder.new)) }
+    ensures reads { SameCounts (F.read_faults folder.old) (F.read_faults folder.new) }
+    ensures files { F.files folder.new ≡ F.files folder.old }
 {
     let mut closed = start;
     loop {
@@ -93,8 +96,10 @@ pub fn drive<R: Threads + Sync, F: Folder, G: Gate + Sync>(
     ensures summary { IfOk result (IsSummary deck) }
     ensures ok { OnOk result (Done (writes_of deck) (F.outs folder.old) (F.outs folder.new)) }
     ensures err { IfErr result (λ fault. Ended (writes_of deck) fault (F.outs folder.old) (F.outs folder.new)) }
-    ensures cause { IfErr result (HasCause (F.write_faults folder.old) (F.write_faults folder.new)) }
-    ensures rest { OnlyWrites (F.files folder.old) (F.files folder.new) (F.read_faults folder.old) (F.read_faults folder.new) (F.write_faults folder.old) (F.write_faults folder.new) }
+    ensures cause { IfErr result (λ fault. OnlyFailed (failed_output fault) (F.write_faults folder.old) (F.write_faults folder.new)) }
+    ensures no_fault { OnOk result (SameCounts (F.write_faults folder.old) (F.write_faults folder.new)) }
+    ensures reads { SameCounts (F.read_faults folder.old) (F.read_faults folder.new) }
+    ensures files { F.files folder.new ≡ F.files folder.old }
 {
     let start = match Closed::start(alloc, deck) {
         Ok(start) => start,

@@ -7,26 +7,25 @@ ghost use Rattle.deck_shape.specs.declared.fault.DeckFault.TheVariants.{Fault as
 ghost use Rattle.kmc_base.specs.declared.ids.FileId.TheVariants.{Mechanism};
 ghost use Rattle.kmc_core.specs.Deck.{IsSound};
 ghost use Rattle.lattice_deck.specs.Parts.{values_at as lattice_values_at};
+ghost use Rattle.plain_files.specs.Mechanism.{steps_of};
+ghost use Rattle.plain_files.specs.Steps.{IsPlainStep, step_view};
 ghost use Rattle.sim_deck.specs.Soundness.{IsSoundPart};
 ghost use Rattle.sim_deck.specs.Values.{values_at};
 ghost use Rattle.species_book.specs.Book.{names_of as names_in};
-ghost use Rattle.kmc_run.specs.PlainDecks.{Reads, book_of, built_in, bytes_in, deck_of, deck_with, file_fault, is_built, is_off, is_on_time, plain_deck, plain_step, types_in, values_in, words_of};
-ghost use Rattle.kmc_run.specs.PlainMechanism.{IsPlainStep, steps_of};
-ghost use Rattle.kmc_run.specs.PlainText.{found_if};
-ghost use Rattle.kmc_run.specs.PlainViews.{step_view};
+ghost use Rattle.kmc_run.specs.PlainDecks.{Reads, book_of, built_in, bytes_in, deck_of, deck_with, file_fault, is_built, is_off, is_on_time, passes, plain_deck, plain_process, side_of, types_in, values_in, words_of};
 ghost use Rattle.kmc_run.specs.Samples.{IsWritten};
 ghost use Rattle.kmc_run.specs.Texts.{IsShort};
 
-use crate::plain;
-use crate::plain::StepText;
 use crate::texts::{Text, Texts};
 use deck_shape::kind::{FILE_ABSENT, FILE_TOO_LONG, NOT_BUILT};
 use deck_shape::{DeckFault, Fault, Name, read_shape};
 use fixed_math::lg_decimal;
-use kmc_base::{FileId, Items, OutOfMemory};
-use kmc_core::{PlainDeck, PlainStep};
+use kmc_base::{FileId, Items, OutOfMemory, SpeciesId};
+use kmc_core::{PlainDeck, PlainProcess};
 use lattice_core::Graph;
 use lattice_deck::{LatticePart, unknown_type};
+use pattern_types::{Pattern, Wanted};
+use plain_files::{StepText, is_energetics, read_mechanism};
 use sim_deck::{Sampling, SimPart};
 use species_book::SpeciesBook;
 use std::alloc::Global;
@@ -114,13 +113,6 @@ fn is_on_time(sampling: Sampling) -> bool
     }
 }
 
-/// Each number of dentates is one.
-fn have_one(dentates: &[u8]) -> bool
-    ensures { result ≡ list_all (λ dentates. nat_le dentates 1) dentates.now }
-{
-    dentates.iter().all(|number| *number <= 1)
-}
-
 /// The values of a simulation file are of the form that is built.
 #[tactic(auto, unfolding(crate::specs::PlainDecks::is_built))]
 fn is_built(text: &[u8], part: &SimPart) -> bool
@@ -130,12 +122,11 @@ fn is_built(text: &[u8], part: &SimPart) -> bool
         && is_off(part.plan.procstat)
         && !is_on_time(part.plan.specnum)
         && part.plan.max_time.is_none()
-        && have_one(part.dentates.as_slice())
 }
 
 /// Goes on where a file is of a form that is built.
 fn go_on_if(built: bool, file: FileId) -> Result<(), DeckFault>
-    ensures value { Reads (λ _. tt) result (built_in file (found_if built (tt {0}))) }
+    ensures value { Reads (λ _. tt) result (passes built file) }
     ensures built { OnOk result (built ≡ true) }
 {
     if built {
@@ -151,11 +142,11 @@ fn read_steps<'a>(
     book: &SpeciesBook,
     text: &'a [u8],
 ) -> Result<Vec<StepText<'a>>, DeckFault>
-    ensures value { Reads (λ steps. map step_view steps.items) result (built_in Mechanism (steps_of book.now.surface text.now)) }
+    ensures value { Reads (λ steps. map step_view steps.items) result (built_in Mechanism (steps_of book.now text.now)) }
     ensures few { IfOk result (λ steps. length steps.items ≤ 16) }
-    ensures plain { IfOk result (λ steps. AllByRecursion (IsPlainStep (length book.now.surface)) (map step_view steps.items)) }
+    ensures plain { IfOk result (λ steps. AllByRecursion (IsPlainStep book.now) (map step_view steps.items)) }
 {
-    match plain::read_mechanism(alloc, book, text)? {
+    match read_mechanism(alloc, book, text)? {
         Some(steps) => Ok(steps),
         None => Err(file_fault(FileId::Mechanism, NOT_BUILT)),
     }
@@ -183,21 +174,36 @@ fn book_of(alloc: Global, text: &[u8], part: &SimPart) -> Result<SpeciesBook, Ou
     Ok(SpeciesBook::new(gas, surface, dentates))
 }
 
-/// A step of the deck.
-fn join_step(step: &StepText) -> PlainStep
-    ensures { result ≡ plain_step (step_view step.now) }
+/// One side of a step on one site.
+fn side_of(state: Option<SpeciesId>) -> Pattern
+    ensures { result ≡ side_of state }
 {
-    PlainStep {
-        before: step.before,
-        after: step.after,
+    let wanted = match state {
+        None => Wanted::Vacant,
+        Some(species) => Wanted::Holds {
+            entity: 1,
+            species,
+            dentate: 1,
+        },
+    };
+    Pattern::new(&[], &[None], &[wanted]).unwrap()
+}
+
+/// A process of the deck.
+fn join_step(step: &StepText) -> PlainProcess
+    ensures { result ≡ plain_process (step_view step.now) }
+{
+    PlainProcess {
+        before: side_of(step.before),
+        after: side_of(step.after),
         factor: lg_decimal(step.digits, step.power as i32),
         activation: (step.activation * 1_000_000_000) as i64,
     }
 }
 
-/// The steps of the deck.
-fn join_steps(alloc: Global, steps: &[StepText]) -> Result<Vec<PlainStep>, OutOfMemory>
-    ensures { IfOk result (λ joined. joined.items ≡ map plain_step (map step_view steps.now)) }
+/// The processes of the deck.
+fn join_steps(alloc: Global, steps: &[StepText]) -> Result<Vec<PlainProcess>, OutOfMemory>
+    ensures { IfOk result (λ joined. joined.items ≡ map plain_process (map step_view steps.now)) }
 {
     let mut joined = Vec::new(alloc);
     for step in steps {
@@ -218,11 +224,11 @@ fn join(
     requires sound { IsSoundPart (values_at text.now part.now) }
     requires book { book ≡ book_of (values_at text.now part.now) }
     requires few_steps { length steps.now ≤ 16 }
-    requires steps { AllByRecursion (IsPlainStep (length book.surface)) (map step_view steps.now) }
+    requires steps { AllByRecursion (IsPlainStep book) (map step_view steps.now) }
     ensures value { IfOk result (λ deck. deck ≡ plain_deck (values_at text.now part.now) graph (map step_view steps.now)) }
     ensures sound { IfOk result IsSound }
 {
-    let steps = join_steps(alloc, steps)?;
+    let processes = join_steps(alloc, steps)?;
     let gas = book.gas_names().len() as u8;
     Ok(PlainDeck {
         temperature: part.temperature,
@@ -230,7 +236,7 @@ fn join(
         plan: part.plan,
         book,
         gas,
-        steps: Items::new(steps),
+        processes: Items::new(processes),
     })
 }
 
@@ -249,7 +255,7 @@ fn deck_with(
     ensures written { IfOk result (λ deck. IsWritten deck.plan) }
 {
     go_on_if(is_built(text, part), FileId::Simulation)?;
-    go_on_if(plain::is_energetics(others.energetics), FileId::Energetics)?;
+    go_on_if(is_energetics(others.energetics), FileId::Energetics)?;
     let book = book_of(alloc, text, part)?;
     let steps = read_steps(alloc, &book, others.mechanism)?;
     Ok(join(alloc, text, part, graph, book, &steps)?)

@@ -2,9 +2,9 @@
 //!
 //! `run_program` is the program, from its words and the bytes of its input files to its status and
 //! the bytes of its outputs. It stands on `deck_shape`, `sim_deck` and `lattice_deck` for the simulation file, the lattice
-//! file and their faults, on `species_book` for names, on `kmc_core` for the trajectory of a deck, and on the folder, the
-//! screen and the gate of `kmc_base` for the outside. The energetics file and the mechanism file are read in their plain
-//! form.
+//! file and their faults, on `plain_files` for the energetics file and the mechanism file in their plain form, on
+//! `species_book` for names, on `kmc_core` for the trajectory of a deck, and on the folder, the screen and the gate of
+//! `kmc_base` for the outside.
 #![tactic(auto)]
 
 mod counting;
@@ -12,7 +12,6 @@ mod drive_fault;
 mod driving;
 mod joining;
 mod loading;
-mod plain;
 mod program;
 mod specnum;
 mod status;

@@ -1,7 +1,7 @@
-ghost use Rattle.std.specs.Prelude.{◌≡◌, IfOk, IfErr, IfSome};
-ghost use Rattle.kmc_run.specs.Answers.{HasCause, IsLoadFault};
+ghost use Rattle.std.specs.Prelude.{◌≡◌, IfOk, IfErr, IfSome, OnOk};
+ghost use Rattle.kmc_base.specs.Faults.{OnlyFailed, SameCounts};
+ghost use Rattle.kmc_run.specs.Answers.{IsLoadFault, failed_read};
 ghost use Rattle.kmc_run.specs.Texts.{IsShort, text_of, texts_of};
-ghost use Rattle.kmc_run.specs.Writes.{OnlyWrites};
 
 use crate::status::Status;
 use crate::texts::{Text, Texts};
@@ -16,9 +16,11 @@ fn load_text<F: Folder>(alloc: Global, folder: &mut F, file: FileId) -> Result<T
     ensures text { IfOk result (λ text. IfSome (F.files folder.old) (λ told. text ≡ text_of told file)) }
     ensures short { IfOk result IsShort }
     ensures fault { IfErr result IsLoadFault }
-    ensures cause { IfErr result (HasCause (F.read_faults folder.old) (F.read_faults folder.new) (F.write_faults folder.old) (F.write_faults folder.new)) }
+    ensures cause { IfErr result (λ status. OnlyFailed (failed_read status) (F.read_faults folder.old) (F.read_faults folder.new)) }
+    ensures no_fault { OnOk result (SameCounts (F.read_faults folder.old) (F.read_faults folder.new)) }
+    ensures writes { SameCounts (F.write_faults folder.old) (F.write_faults folder.new) }
+    ensures files { F.files folder.new ≡ F.files folder.old }
     ensures outs { F.outs folder.new ≡ F.outs folder.old }
-    ensures rest { OnlyWrites (F.files folder.old) (F.files folder.new) (F.read_faults folder.old) (F.read_faults folder.new) (F.write_faults folder.old) (F.write_faults folder.new) }
 {
     match folder.load(alloc, file, MOST_BYTES) {
         Ok(bytes) if bytes.len() <= MOST_BYTES => Ok(Text::Bytes(Items::new(bytes))),
@@ -34,9 +36,11 @@ pub(crate) fn load_texts<F: Folder>(alloc: Global, folder: &mut F) -> Result<Tex
     ensures texts { IfOk result (λ texts. IfSome (F.files folder.old) (λ told. texts ≡ texts_of told)) }
     ensures short { IfOk result (λ texts. IsShort texts.simulation × IsShort texts.lattice) }
     ensures fault { IfErr result IsLoadFault }
-    ensures cause { IfErr result (HasCause (F.read_faults folder.old) (F.read_faults folder.new) (F.write_faults folder.old) (F.write_faults folder.new)) }
+    ensures cause { IfErr result (λ status. OnlyFailed (failed_read status) (F.read_faults folder.old) (F.read_faults folder.new)) }
+    ensures no_fault { OnOk result (SameCounts (F.read_faults folder.old) (F.read_faults folder.new)) }
+    ensures writes { SameCounts (F.write_faults folder.old) (F.write_faults folder.new) }
+    ensures files { F.files folder.new ≡ F.files folder.old }
     ensures outs { F.outs folder.new ≡ F.outs folder.old }
-    ensures rest { OnlyWrites (F.files folder.old) (F.files folder.new) (F.read_faults folder.old) (F.read_faults folder.new) (F.write_faults folder.old) (F.write_faults folder.new) }
 {
     let simulation = load_text(alloc, folder, FileId::Simulation)?;
     let lattice = load_text(alloc, folder, FileId::Lattice)?;

@@ -1,5 +1,6 @@
 ghost use Rattle.std.specs.Prelude.{◌≡◌, ◌≢◌, ◌↔◌, false, true, IfSome, IsTrue, map, string_bytes};
-ghost use Rattle.kmc_run.specs.Answers.{are_right, HasCause, KeepsOuts, Leaves, MayAnswer};
+ghost use Rattle.kmc_base.specs.Faults.{OnlyFailed};
+ghost use Rattle.kmc_run.specs.Answers.{are_right, failed_read, failed_write, KeepsOuts, Leaves, MayAnswer};
 ghost use Rattle.kmc_run.specs.PlainDecks.{deck_of_files};
 
 use crate::drive_fault::DriveFault;
@@ -33,7 +34,8 @@ fn run<R: Threads + Sync, F: Folder, G: Gate + Sync>(
     ensures answer { IfSome (F.files folder.old) (λ told. MayAnswer (deck_of_files told) result) }
     ensures outs { IfSome (F.files folder.old) (λ told. Leaves (deck_of_files told) result (F.outs folder.old) (F.outs folder.new)) }
     ensures kept { KeepsOuts result (F.outs folder.old) (F.outs folder.new) }
-    ensures cause { HasCause (F.read_faults folder.old) (F.read_faults folder.new) (F.write_faults folder.old) (F.write_faults folder.new) result }
+    ensures reads { OnlyFailed (failed_read result) (F.read_faults folder.old) (F.read_faults folder.new) }
+    ensures writes { OnlyFailed (failed_write result) (F.write_faults folder.old) (F.write_faults folder.new) }
     ensures files { F.files folder.new ≡ F.files folder.old }
     ensures words { result ≢ Status.BadWords }
     ensures screen { result ≢ Status.ScreenFault }
@@ -73,8 +75,9 @@ pub fn run_program<R: Threads + Sync, F: Folder, S: Sink, G: Gate + Sync>(
     ensures outs { are_right (map string_bytes words.now) ≡ true → IfSome (F.files folder.old) (λ told. Leaves (deck_of_files told) result (F.outs folder.old) (F.outs folder.new)) }
     // An answer that nothing was run keeps the outputs, whether or not the files are told.
     ensures kept { KeepsOuts result (F.outs folder.old) (F.outs folder.new) }
-    // A fault of reading or writing is answered only where it came in this call.
-    ensures cause { HasCause (F.read_faults folder.old) (F.read_faults folder.new) (F.write_faults folder.old) (F.write_faults folder.new) result }
+    // A fault of reading or writing is answered exactly where it came in this call, and it is the only one.
+    ensures reads { OnlyFailed (failed_read result) (F.read_faults folder.old) (F.read_faults folder.new) }
+    ensures writes { OnlyFailed (failed_write result) (F.write_faults folder.old) (F.write_faults folder.new) }
     ensures files { F.files folder.new ≡ F.files folder.old }
     ensures screen { _screen.new ≡ _screen.old }
     ensures no_screen_fault { result ≢ Status.ScreenFault }

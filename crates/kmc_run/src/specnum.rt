@@ -1,31 +1,12 @@
-ghost use Rattle.std.specs.Prelude.{◌≡◌, ℕ, ◌+◌, ◌/◌, ◌^◌, ◌<◌, ◌≤◌, ◌++◌, ◌∷◌, [], IfOk, OnOk};
+ghost use Rattle.std.specs.Prelude.{◌≡◌, ◌^◌, ◌≤◌, ◌++◌, IfOk, OnOk};
 ghost use Rattle.std.specs.Fmt.{decimal};
-ghost use Rattle.kmc_run.specs.Specnum.{fixed_point, low_digits, next_counts, next_names, next_word, specnum_head, specnum_line};
+ghost use Rattle.dec_text.specs.Fixed.{fixed_text};
+ghost use Rattle.kmc_run.specs.Specnum.{next_counts, next_names, next_word, specnum_head, specnum_line};
 ghost use Rattle.species_book.specs.Book.{names_of};
 
+use dec_text::print_fixed;
 use kmc_base::OutOfMemory;
 use std::alloc::Global;
-
-/// The power of ten of a number of places.
-fn power_of_ten(places: u32) -> u128
-    requires { places ≤ 18 }
-    ensures value { result ≡ 10 ^ places }
-    ensures positive { 0 < result }
-{
-    10u128.pow(places)
-}
-
-/// Adds the lowest so many digits of a number, the highest of them first.
-fn push_digits(out: &mut Vec<u8>, number: u128, digits: u32) -> Result<(), OutOfMemory>
-    requires { digits ≤ 18 }
-    ensures { OnOk result (out.new.items ≡ out.old.items ++ low_digits digits number) }
-{
-    for place in (0..digits).rev() {
-        let digit = (number / power_of_ten(place) % 10) as u8;
-        out.push(b'0' + digit)?;
-    }
-    Ok(())
-}
 
 /// Adds a number in digits.
 fn push_number(out: &mut Vec<u8>, number: u64) -> Result<(), OutOfMemory>
@@ -44,15 +25,14 @@ fn push_next(out: &mut Vec<u8>, number: u64) -> Result<(), OutOfMemory>
     push_number(out, number)
 }
 
-/// Adds a space, and a number of units of 10^-places with its point. The whole part is below 2^64.
-fn push_fixed(out: &mut Vec<u8>, number: u128, places: u32) -> Result<(), OutOfMemory>
-    requires places { places ≤ 18 }
-    requires whole { number / 10 ^ places < 2 ^ 64 }
-    ensures { OnOk result (out.new.items ≡ out.old.items ++ next_word (fixed_point places number)) }
+/// Adds a space, and a number of units of its last decimal.
+fn push_fixed(out: &mut Vec<u8>, number: i128, decimals: u32) -> Result<(), OutOfMemory>
+    requires some { 1 ≤ decimals }
+    requires most { decimals ≤ 18 }
+    ensures { OnOk result (out.new.items ≡ out.old.items ++ next_word (fixed_text number decimals)) }
 {
-    push_next(out, (number / power_of_ten(places)) as u64)?;
-    out.push(b'.')?;
-    push_digits(out, number, places)
+    out.push(b' ')?;
+    print_fixed(number, decimals, out)
 }
 
 /// Adds names, with a space before each.
@@ -116,8 +96,8 @@ pub(crate) fn line(
     let mut out = Vec::new(alloc);
     push_number(&mut out, moment.sample)?;
     push_next(&mut out, moment.event)?;
-    push_fixed(&mut out, moment.time, 18)?;
-    push_fixed(&mut out, u128::from(moment.temperature), 3)?;
+    push_fixed(&mut out, moment.time as i128, 18)?;
+    push_fixed(&mut out, i128::from(moment.temperature), 3)?;
     push_fixed(&mut out, 0, 9)?;
     push_counts(&mut out, surface)?;
     push_counts(&mut out, gas)?;

@@ -1,13 +1,9 @@
-ghost use Rattle.std.specs.Prelude.{IfOk};
-ghost use Rattle.lattice_core.specs.Lattice.{IsLattice};
-
 use super::*;
+use crate::joining::read_deck;
+use crate::loading::load_texts;
 use deck_shape::kind;
-use kmc_base::{FileId, Items, MemoryFolder, MemorySink, OpenGate, OutId, SpeciesId};
-use kmc_core::{PlainDeck, PlainStep, Stop};
-use lattice_core::Graph;
-use sim_deck::{Plan, Sampling};
-use species_book::SpeciesBook;
+use kmc_base::{FileId, MemoryFolder, MemorySink, OpenGate, OutId};
+use kmc_core::Stop;
 use std::alloc::Global;
 use std::marker::Sync;
 use std::test::Fail;
@@ -159,7 +155,7 @@ fn writes_the_samples_of_whole_runs(rt: HostRuntime) -> Result<(), Fail> {
 
 #[test]
 fn refuses_simulation_files(rt: HostRuntime) -> Result<(), Fail> {
-    const CASES: [(usize, &str, u32, u8); 8] = [
+    const CASES: [(usize, &str, u32, u8); 7] = [
         (10, "temperature 400.0\nfinish\n", 11, kind::REPEATED_WORD),
         (2, "", 10, kind::MISSING_WORD),
         (9, "surf_specs_dent 1 1\n", 10, kind::LIST_LENGTH),
@@ -177,7 +173,6 @@ fn refuses_simulation_files(rt: HostRuntime) -> Result<(), Fail> {
             kind::NOT_BUILT,
         ),
         (10, "max_time 1.0\nfinish\n", 0, kind::NOT_BUILT),
-        (9, "surf_specs_dent 2\n", 0, kind::NOT_BUILT),
     ];
     let alloc = rt.alloc();
     for (place, text, line, kind) in CASES {
@@ -217,11 +212,11 @@ fn runs_on_each_kind_of_lattice(rt: HostRuntime) -> Result<(), Fail> {
     Ok(())
 }
 
-// Faults of form come before faults of values, those before a type that is none, and that before what is not built; of
-// two faults of one of these the one of the simulation file comes first.
+// Faults of form come before faults of values, those before a type that is none, and that before what is not built, which
+// is a step of a species of two dentates; of two faults of one of these the one of the simulation file comes first.
 #[test]
 fn refuses_lattice_files(rt: HostRuntime) -> Result<(), Fail> {
-    const CASES: [(usize, &str, &str, FileId, u32, u8); 6] = [
+    const CASES: [(usize, &str, &str, FileId, u32, u8); 7] = [
         (11, "", NARROW, FileId::Lattice, 2, kind::SELF_NEIGHBOUR),
         (11, "", UNKNOWN, FileId::Lattice, 7, kind::UNKNOWN_TYPE),
         (
@@ -248,6 +243,14 @@ fn refuses_lattice_files(rt: HostRuntime) -> Result<(), Fail> {
             FileId::Lattice,
             7,
             kind::UNKNOWN_TYPE,
+        ),
+        (
+            9,
+            "surf_specs_dent 2\n",
+            LATTICE,
+            FileId::Mechanism,
+            0,
+            kind::NOT_BUILT,
         ),
     ];
     let alloc = rt.alloc();
@@ -351,57 +354,47 @@ fn refuses_a_file_that_is_too_long(rt: HostRuntime) -> Result<(), Fail> {
     Ok(())
 }
 
-/// A lattice of four sites that have no neighbours.
-fn four_sites(alloc: Global) -> Result<Graph, Fail>
-    ensures { IfOk result IsLattice }
-{
-    let neighbours = vec![in alloc;
-        Vec::new(alloc),
-        Vec::new(alloc),
-        Vec::new(alloc),
-        Vec::new(alloc),
-    ]?;
-    let types = vec![in alloc; 0u16; 4]?;
-    let graph = Graph::new(types, neighbours).ok().ok_or("a fault")?;
-    if graph.len() != 4 {
-        return Err("not four sites")?;
-    }
-    Ok(graph)
-}
+/// A simulation file of two species, of which the first has two dentates, with a sample at every second event.
+const TWO_SPECIES: &str =
+    "random_seed 1\ntemperature 500.0\npressure 1.0\nn_gas_species 1\ngas_specs_names G\ngas_energies 0.0\ngas_molar_fracs 1.0\nn_surf_species 2\nsurf_specs_names A** B*\nsurf_specs_dent 2 1\nspecies_numbers on event 2\nmax_steps 10\nfinish\n";
+
+/// A step that fills a site with the second of them, at once.
+const FILLS_SECOND: &str =
+    "mechanism\nstep one\nsites 1\ninitial\n1 * 1\nfinal\n1 B* 1\npre_expon 1e300\nactiv_eng 0\nend_step\nend_mechanism\n";
 
 #[test]
 fn drives_a_deck_to_its_last_event(rt: HostRuntime) -> Result<(), Fail> {
     let alloc = rt.alloc();
-    let step = PlainStep {
-        before: None,
-        after: Some(SpeciesId(1)),
-        factor: Some(1_070_067_939_600),
-        activation: 0,
-    };
-    let gas = vec![in alloc; Vec::from_slice(alloc, b"G")?]?;
-    let first = Vec::from_slice(alloc, b"A*")?;
-    let second = Vec::from_slice(alloc, b"B*")?;
-    let surface = vec![in alloc; first, second]?;
-    let deck = PlainDeck {
-        temperature: 500_000,
-        graph: four_sites(alloc)?,
-        plan: Plan {
-            seed: 1,
-            max_steps: 10,
-            max_time: None,
-            history: Sampling::Off,
-            procstat: Sampling::Off,
-            specnum: Sampling::Event(2),
-        },
-        book: SpeciesBook::new(gas, surface, vec![in alloc; 1, 1]?),
-        gas: 1,
-        steps: Items::new(vec![in alloc; step]?),
-    };
-    let mut folder = folder(alloc, "", "", "", "", 0, 0)?;
+    let mut folder = folder(alloc, TWO_SPECIES, LATTICE, ENERGETICS, FILLS_SECOND, 0, 0)?;
+    let texts = load_texts(alloc, &mut folder)
+        .ok()
+        .ok_or("a file was not read")?;
+    let deck = read_deck(alloc, &texts).ok().ok_or("a fault")?;
     let summary = drive(&rt, alloc, deck, &mut folder, &OpenGate, 1, 64)?;
-    assert_eq!(rt; (summary.events, summary.time, summary.energy), (4, 1, 0));
+    assert_eq!(rt; summary.events, 4);
+    assert_eq!(rt; summary.time, 1);
+    assert_eq!(rt; summary.energy, 0);
     assert_eq!(rt; summary.surface.as_slice(), [0, 4].as_slice());
     assert_eq!(rt; summary.gas.as_slice(), [0].as_slice());
     assert_eq!(rt; summary.stop, Stop::Still);
+    Ok(())
+}
+
+#[test]
+fn answers_the_first_of_two_files_that_fail(rt: HostRuntime) -> Result<(), Fail> {
+    // The numbers of the two loads that fail, and the file of the first of them.
+    const CASES: [([u64; 2], FileId); 3] = [
+        ([1, 2], FileId::Simulation),
+        ([3, 2], FileId::Lattice),
+        ([3, 4], FileId::Energetics),
+    ];
+    let alloc = rt.alloc();
+    for (loads, first) in CASES {
+        let failing = Vec::from_array(alloc, loads)?;
+        let none = Vec::new(alloc);
+        let mut folder = MemoryFolder::new(Vec::new(alloc), failing, none, Vec::new(alloc));
+        let status = run(&rt, alloc, "run", 1, &mut folder)?;
+        assert_eq!(rt; status, Status::ReadFault(first));
+    }
     Ok(())
 }

@@ -1,8 +1,9 @@
 ghost use Rattle.std.specs.Prelude.{◌≡◌, ◌≤◌, [], ◌∷◌, OnOk, IfErr, IfOk, IfSome, IsSomeAnd, replicate};
-ghost use Rattle.kmc_core.specs.OneSite.{trajectory_of};
+ghost use Rattle.kmc_base.specs.Faults.{OnlyFailed, SameCounts};
+ghost use Rattle.kmc_core.specs.PlainSystem.{trajectory_of};
 ghost use Rattle.sim_deck.specs.Soundness.{IsPeriod};
 ghost use Rattle.kmc_run.specs.Samples.{event_period, sample_line, writes_at, writes_before};
-ghost use Rattle.kmc_run.specs.Writes.{Begin, Append, Done, Ended, HasCause, OnlyWrites};
+ghost use Rattle.kmc_run.specs.Writes.{Begin, Append, Done, Ended, failed_output};
 
 use crate::counting::adsorbates;
 use crate::drive_fault::DriveFault;
@@ -17,8 +18,10 @@ use std::alloc::Global;
 fn begin<F: Folder>(folder: &mut F, out: OutId) -> Result<(), DriveFault>
     ensures ok { OnOk result (Done (Begin out ∷ []) (F.outs folder.old) (F.outs folder.new)) }
     ensures err { IfErr result (λ fault. Ended (Begin out ∷ []) fault (F.outs folder.old) (F.outs folder.new)) }
-    ensures cause { IfErr result (HasCause (F.write_faults folder.old) (F.write_faults folder.new)) }
-    ensures rest { OnlyWrites (F.files folder.old) (F.files folder.new) (F.read_faults folder.old) (F.read_faults folder.new) (F.write_faults folder.old) (F.write_faults folder.new) }
+    ensures cause { IfErr result (λ fault. OnlyFailed (failed_output fault) (F.write_faults folder.old) (F.write_faults folder.new)) }
+    ensures no_fault { OnOk result (SameCounts (F.write_faults folder.old) (F.write_faults folder.new)) }
+    ensures reads { SameCounts (F.read_faults folder.old) (F.read_faults folder.new) }
+    ensures files { F.files folder.new ≡ F.files folder.old }
 {
     match folder.begin(out) {
         Ok(()) => Ok(()),
@@ -30,8 +33,10 @@ fn begin<F: Folder>(folder: &mut F, out: OutId) -> Result<(), DriveFault>
 fn append<F: Folder>(folder: &mut F, out: OutId, piece: &[u8]) -> Result<(), DriveFault>
     ensures ok { OnOk result (Done (Append out piece.now ∷ []) (F.outs folder.old) (F.outs folder.new)) }
     ensures err { IfErr result (λ fault. Ended (Append out piece.now ∷ []) fault (F.outs folder.old) (F.outs folder.new)) }
-    ensures cause { IfErr result (HasCause (F.write_faults folder.old) (F.write_faults folder.new)) }
-    ensures rest { OnlyWrites (F.files folder.old) (F.files folder.new) (F.read_faults folder.old) (F.read_faults folder.new) (F.write_faults folder.old) (F.write_faults folder.new) }
+    ensures cause { IfErr result (λ fault. OnlyFailed (failed_output fault) (F.write_faults folder.old) (F.write_faults folder.new)) }
+    ensures no_fault { OnOk result (SameCounts (F.write_faults folder.old) (F.write_faults folder.new)) }
+    ensures reads { SameCounts (F.read_faults folder.old) (F.read_faults folder.new) }
+    ensures files { F.files folder.new ≡ F.files folder.old }
 {
     match folder.append(out, piece) {
         Ok(()) => Ok(()),
@@ -58,8 +63,10 @@ pub(crate) fn write_before<F: Folder>(
 ) -> Result<(), DriveFault>
     ensures ok { OnOk result (Done (writes_before deck.now) (F.outs folder.old) (F.outs folder.new)) }
     ensures err { IfErr result (λ fault. Ended (writes_before deck.now) fault (F.outs folder.old) (F.outs folder.new)) }
-    ensures cause { IfErr result (HasCause (F.write_faults folder.old) (F.write_faults folder.new)) }
-    ensures rest { OnlyWrites (F.files folder.old) (F.files folder.new) (F.read_faults folder.old) (F.read_faults folder.new) (F.write_faults folder.old) (F.write_faults folder.new) }
+    ensures cause { IfErr result (λ fault. OnlyFailed (failed_output fault) (F.write_faults folder.old) (F.write_faults folder.new)) }
+    ensures no_fault { OnOk result (SameCounts (F.write_faults folder.old) (F.write_faults folder.new)) }
+    ensures reads { SameCounts (F.read_faults folder.old) (F.read_faults folder.new) }
+    ensures files { F.files folder.new ≡ F.files folder.old }
 {
     let Some(_) = event_period(deck.plan.specnum) else {
         return Ok(());
@@ -104,8 +111,10 @@ pub(crate) fn write_at<F: Folder>(
 ) -> Result<(), DriveFault>
     ensures ok { OnOk result (Done (writes_at closed.now.deck closed.now.event) (F.outs folder.old) (F.outs folder.new)) }
     ensures err { IfErr result (λ fault. Ended (writes_at closed.now.deck closed.now.event) fault (F.outs folder.old) (F.outs folder.new)) }
-    ensures cause { IfErr result (HasCause (F.write_faults folder.old) (F.write_faults folder.new)) }
-    ensures rest { OnlyWrites (F.files folder.old) (F.files folder.new) (F.read_faults folder.old) (F.read_faults folder.new) (F.write_faults folder.old) (F.write_faults folder.new) }
+    ensures cause { IfErr result (λ fault. OnlyFailed (failed_output fault) (F.write_faults folder.old) (F.write_faults folder.new)) }
+    ensures no_fault { OnOk result (SameCounts (F.write_faults folder.old) (F.write_faults folder.new)) }
+    ensures reads { SameCounts (F.read_faults folder.old) (F.read_faults folder.new) }
+    ensures files { F.files folder.new ≡ F.files folder.old }
 {
     let Some(period) = event_period(closed.deck().plan.specnum) else {
         return Ok(());

@@ -1,5 +1,5 @@
 -- the place of a name is where it stands, and there is none exactly where it stands nowhere
-use Rattle.std.proofs.Common.{◌≡◌, ◌↔◌, ℕ, ◌+◌, ◌<◌, ◌≤◌, Bool, true, false, not, cond, ◌&&◌, ◌||◌, IsTrue, IsNone, Option, Some, None, List, [], ◌∷◌, length, zero, suc, subst, add-zero, refl, ap, sym, ◌∙◌, arith, ⊎_elim}
+use Rattle.std.proofs.Common.{◌≡◌, ◌↔◌, ℕ, ◌+◌, ◌<◌, Bool, true, false, not, ◌&&◌, ◌||◌, IsTrue, IsNone, Option, Some, None, List, [], ◌∷◌, length, zero, suc, subst, add-zero, refl, ap, ◌∙◌, arith, ⊎_elim}
 use Rattle.std.specs.List.{list_any, position_from, slice_get}
 use Rattle.std.specs.Str.{bytes_eq}
 use Rattle.std.proofs.lemmas.Bool.{cases_Bool}

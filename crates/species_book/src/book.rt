@@ -80,6 +80,7 @@ impl SpeciesBook {
     pub fn surface_names(&self) -> &[Vec<u8>]
         ensures names { names_of result.now ≡ self.now.surface }
         ensures few { length result.now ≤ 64 }
+        ensures dentates_match { length self.now.dentates ≡ length self.now.surface }
     {
         self.surface.as_slice()
     }

@@ -1,6 +1,6 @@
 use Rattle.std.proofs.Common.{◌≡◌}
 use Rattle.std.specs.Prelude.{IfSome}
-use Rattle.kmc_core.specs.OneSite.{trajectory_of}
+use Rattle.kmc_core.specs.PlainSystem.{trajectory_of}
 use Rattle.kmc_run.proofs.CountLemmas.{counts_of}
 use Rattle.kmc_run.proofs.counting.adsorbates.Given as goal
 

@@ -1,7 +1,7 @@
 use Rattle.std.proofs.Common.{ℕ, ap, sym, ◌∙◌, ◌<◌, subst}
 use Rattle.std.proofs.lemmas.Result.{err_from_is_err_and}
+use Rattle.kmc_base.proofs.FaultLemmas.{same_then}
 use Rattle.kmc_run.proofs.EventLemmas.{done_at, end_at, ended_at, passed_at, passed_end, passed_fails, passed_last, passed_one, passed_stops, stop_of_at}
-use Rattle.kmc_run.proofs.WriteLemmas.{only_writes_then}
 use Rattle.kmc_run.proofs.driving.run_events.Goals as goal
 
 pub returns-in_err-write_at-clause-err : goal.returns-in_err-write_at-clause-err
@@ -38,5 +38,7 @@ loop-closed-preserved g c =
       deck = ap (λ r. r.deck) c.in_ok-closed-in-Next.ensures ∙ (ap (λ r. r.deck) next.2 ∙ read);
       passed = passed_at _ _ _ _ _ _ (sym event) (passed_one c.args.start.deck c.args.start.event c.loop-closed.closed.event _ _ _ c.loop-closed.invariant.passed
           (done_at _ _ _ _ _ read c.in_ok-write_at.ensures.ok) (stop_of_at c.loop-closed.closed.deck c.args.start.deck c.loop-closed.closed.event _ read next.0) lt);
-      rest = only_writes_then _ _ _ _ _ _ _ _ _ c.loop-closed.invariant.rest c.in_ok-write_at.ensures.rest;
+      files_kept = c.in_ok-write_at.ensures.files ∙ c.loop-closed.invariant.files_kept;
+      reads_kept = same_then _ _ _ c.loop-closed.invariant.reads_kept c.in_ok-write_at.ensures.reads;
+      writes_kept = same_then _ _ _ c.loop-closed.invariant.writes_kept c.in_ok-write_at.ensures.no_fault;
     }

@@ -1,6 +1,6 @@
 use Rattle.std.proofs.Common.{◌≡◌, ◌-◌}
+use Rattle.kmc_base.specs.Faults.{SameCounts}
 use Rattle.kmc_run.proofs.EventLemmas.{Passed}
-use Rattle.kmc_run.specs.Writes.{OnlyWrites}
 use Rattle.kmc_run.proofs.driving.run_events.Given as goal
 
 -- the events before the present one are passed, with their writes done
@@ -13,7 +13,9 @@ invariant-loop-closed g l =
     record {
       deck : l.closed.deck ≡ l.fn.start.deck;
       passed : Passed l.fn.start.deck l.fn.start.event l.closed.event (outs l.fn.folder) (outs l.folder);
-      rest : OnlyWrites (files l.fn.folder) (files l.folder) (reads l.fn.folder) (reads l.folder) (writes l.fn.folder) (writes l.folder);
+      files_kept : files l.folder ≡ files l.fn.folder;
+      reads_kept : SameCounts (reads l.fn.folder) (reads l.folder);
+      writes_kept : SameCounts (writes l.fn.folder) (writes l.folder);
     }
 
 abbrev pub decreases-loop-closed : goal.decreases-loop-closed

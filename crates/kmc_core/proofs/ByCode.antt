@@ -1,0 +1,182 @@
+-- Instances whose codes differ, in rising order of these.
+use Rattle.std.proofs.Common.{◌≡◌, ◌≢◌, ℕ, suc, ◌<◌, ◌≤◌, true, false, cond, eqb, ℤ, List, [], ◌∷◌, Option, map, get_or, length, Contains, refl, sym, ap, subst, arith, inl, inr}
+use Rattle.std.specs.Prelude.{nat_lt}
+use Rattle.std.specs.List.{AllByRecursion, sum_by}
+use Rattle.std.specs.List.Sorted.{IsPermutation, IsNonDecreasingBy}
+use Rattle.std.proofs.lemmas.Bool.{cases_Bool, cases_lt, eq-eqb, eqb-true, ne_eqb, ltb-true, ltb-false}
+use Rattle.std.proofs.lemmas.List.Elements.{All-contains, All-from_recursion, recursion_from_All}
+use Rattle.std.proofs.lemmas.List.Sorted.{Contains-permutation, sum_by-IsPermutation, IsPermutation-refl, IsPermutation-sym, IsPermutation-cons, IsPermutation-middle, IsPermutation-trans}
+use Rattle.std.proofs.lemmas.List.Sums.{sum_by-cons, get_or-le-sum_by}
+use Rattle.kmc_base.proofs.EntryLists.{below-all}
+use Rattle.kmc_base.specs.Entries.{IsRising}
+use Rattle.pattern_list.proofs.Members.{in-none, in-first, in-rest, in-cases}
+use Rattle.kmc_core.proofs.Each.{all-map, all-from_map}
+use Rattle.kmc_core.specs.Instances.{inserted, by_code}
+
+-- the codes of instances
+abbrev pub codes : List (ℕ × Option ℤ) → List ℕ
+codes offers = map (λ (offer : ℕ × Option ℤ). offer.0) offers
+
+-- no number stands there twice
+abbrev pub AreApart : List ℕ → Type 0
+AreApart [] = Unit {0}
+AreApart (n ∷ ns) = AllByRecursion (λ m. n ≢ m) ns × AreApart ns
+
+-- ---- one more instance in its place
+
+pub all-inserted : (P : ℕ × Option ℤ → Type 0) (offer : ℕ × Option ℤ) (offers : List (ℕ × Option ℤ)) → P offer → AllByRecursion P offers → AllByRecursion P (inserted offer offers)
+all-inserted P offer [] p all = (p, tt)
+all-inserted P offer (next ∷ rest) p all =
+    elim (nat_lt offer.0 next.0) as (λ t. AllByRecursion P (cond t (offer ∷ next ∷ rest) (next ∷ inserted offer rest))) [
+      | true ↦ (p, all)
+      | false ↦ (all.0, all-inserted P offer rest p all.1)
+    ]
+
+rising-inserted : (offer : ℕ × Option ℤ) (offers : List (ℕ × Option ℤ)) → IsRising (codes offers) → AllByRecursion (λ (other : ℕ × Option ℤ). offer.0 ≢ other.0) offers → IsRising (codes (inserted offer offers))
+rising-inserted offer [] rising apart = (tt, tt)
+rising-inserted offer (next ∷ rest) rising apart =
+    elim (cases_Bool (nat_lt offer.0 next.0)) [
+      | inl low ↦ let below : offer.0 < next.0 = ltb-true _ _ low in
+          rw low ((below, below-all offer.0 next.0 (codes rest) (omega arith) rising.0), rising)
+      | inr high ↦ let above : next.0 ≤ offer.0 = ltb-false _ _ high in
+          let other : offer.0 ≢ next.0 = apart.0 in
+          rw high (
+            all-map (λ (o : ℕ × Option ℤ). next.0 < o.0) (λ m. next.0 < m) (λ (o : ℕ × Option ℤ). o.0) (inserted offer rest) (λ o low. low)
+                (all-inserted (λ (o : ℕ × Option ℤ). next.0 < o.0) offer rest (omega arith) (all-from_map (λ m. next.0 < m) (λ (o : ℕ × Option ℤ). o.0) rest rising.0)),
+            rising-inserted offer rest rising.1 apart.1,
+          )
+    ]
+
+moved-inserted : (offer : ℕ × Option ℤ) (offers : List (ℕ × Option ℤ)) → IsPermutation (offer ∷ offers) (inserted offer offers)
+moved-inserted offer [] = IsPermutation-refl (offer ∷ [])
+moved-inserted offer (next ∷ rest) =
+    elim (nat_lt offer.0 next.0) as (λ t. IsPermutation (offer ∷ next ∷ rest) (cond t (offer ∷ next ∷ rest) (next ∷ inserted offer rest))) [
+      | true ↦ IsPermutation-refl (offer ∷ next ∷ rest)
+      | false ↦ IsPermutation-trans (offer ∷ next ∷ rest) (next ∷ offer ∷ rest) (next ∷ inserted offer rest)
+          (IsPermutation-sym (next ∷ offer ∷ rest) (offer ∷ next ∷ rest) (IsPermutation-middle (next ∷ []) offer rest))
+          (IsPermutation-cons next (offer ∷ rest) (inserted offer rest) (moved-inserted offer rest))
+    ]
+
+-- ---- all of them
+
+pub all-by_code : (P : ℕ × Option ℤ → Type 0) (offers : List (ℕ × Option ℤ)) → AllByRecursion P offers → AllByRecursion P (by_code offers)
+unfolding by_code
+all-by_code P [] all = tt
+all-by_code P (offer ∷ offers) all = all-inserted P offer (by_code offers) all.0 (all-by_code P offers all.1)
+
+pub rising-by_code : (offers : List (ℕ × Option ℤ)) → AreApart (codes offers) → IsRising (codes (by_code offers))
+unfolding by_code
+rising-by_code [] apart = tt
+rising-by_code (offer ∷ offers) apart =
+    rising-inserted offer (by_code offers) (rising-by_code offers apart.1)
+    (all-by_code (λ (other : ℕ × Option ℤ). offer.0 ≢ other.0) offers (all-from_map (λ m. offer.0 ≢ m) (λ (o : ℕ × Option ℤ). o.0) offers apart.0))
+
+pub moved-by_code : (offers : List (ℕ × Option ℤ)) → IsPermutation offers (by_code offers)
+unfolding by_code
+moved-by_code [] = IsPermutation-refl []
+moved-by_code (offer ∷ offers) =
+    IsPermutation-trans (offer ∷ offers) (offer ∷ by_code offers) (inserted offer (by_code offers))
+    (IsPermutation-cons offer offers (by_code offers) (moved-by_code offers))
+    (moved-inserted offer (by_code offers))
+
+-- ---- sorted by code
+
+-- 1 where an instance has a code
+abbrev hit : ℕ → ℕ × Option ℤ → ℕ
+hit code offer = cond (eqb code offer.0) 1 0
+
+hit-same : (code : ℕ) (offer : ℕ × Option ℤ) → code ≡ offer.0 → hit code offer ≡ 1
+hit-same code offer same = let t = eq-eqb code offer.0 same in rw t refl
+
+hit-other : (code : ℕ) (offer : ℕ × Option ℤ) → code ≢ offer.0 → hit code offer ≡ 0
+hit-other code offer other = let f = ne_eqb code offer.0 other in rw f refl
+
+none-there : (code : ℕ) (offers : List (ℕ × Option ℤ)) → AllByRecursion (λ m. code ≢ m) (codes offers) → sum_by (hit code) offers ≡ 0
+none-there code [] other = refl
+none-there code (offer ∷ offers) other =
+    let here = hit-other code offer other.0 in
+    let rest = none-there code offers other.1 in
+    omega (arith, sum_by-cons (hit code) offer offers)
+
+once-there : (code : ℕ) (offers : List (ℕ × Option ℤ)) → AreApart (codes offers) → sum_by (hit code) offers ≤ 1
+once-there code [] apart = omega arith
+once-there code (offer ∷ offers) apart =
+    let more = sum_by-cons (hit code) offer offers in
+    elim (cases_Bool (eqb code offer.0)) [
+      | inl t ↦ let same : code ≡ offer.0 = eqb-true _ _ t in
+          let here = hit-same code offer same in
+          let rest = none-there code offers (subst (λ c. AllByRecursion (λ m. c ≢ m) (codes offers)) (sym same) apart.0) in
+          omega arith
+      | inr f ↦ let here : hit code offer ≡ 0 = rw f refl in
+          let rest = once-there code offers apart.1 in
+          omega arith
+    ]
+
+-- codes that do not fall, and of which none is there twice, rise
+rising-sorted : (offers : List (ℕ × Option ℤ)) → IsNonDecreasingBy (λ (o : ℕ × Option ℤ). o.0) offers → ((code : ℕ) → sum_by (hit code) offers ≤ 1) → IsRising (codes offers)
+rising-sorted [] order once = tt
+rising-sorted (offer ∷ offers) order once = (
+  all-map (λ (o : ℕ × Option ℤ). offer.0 < o.0) (λ m. offer.0 < m) (λ (o : ℕ × Option ℤ). o.0) offers (λ o low. low)
+      (recursion_from_All (λ (o : ℕ × Option ℤ). offer.0 < o.0) offers (λ k d within. above k d within)),
+  rising-sorted offers (λ i j d le within. order (suc i) (suc j) d (omega arith) (omega arith)) (λ code. omega (arith, once code, sum_by-cons (hit code) offer offers)),
+)
+  where
+    above : (k : ℕ) (d : ℕ × Option ℤ) → k < length offers → offer.0 < (get_or offers k d).0
+    above k d within =
+        let later = get_or offers k d in
+        let up : offer.0 ≤ later.0 = order 0 (suc k) d (omega arith) (omega arith) in
+        elim (cases_lt offer.0 later.0) [
+          | inl low ↦ low
+          | inr high ↦
+              let here = hit-same offer.0 offer refl in
+              let there = hit-same offer.0 later (omega arith) in
+              let some = get_or-le-sum_by (hit offer.0) offers k d within in
+              let few = once offer.0 in
+              absurd (omega (arith, sum_by-cons (hit offer.0) offer offers))
+        ]
+
+-- the first code is below the others
+first-below : (offer : ℕ × Option ℤ) (offers : List (ℕ × Option ℤ)) → IsRising (codes (offer ∷ offers)) → (other : ℕ × Option ℤ) → Contains offers other → offer.0 < other.0
+first-below offer offers rising other c =
+    All-contains (λ (o : ℕ × Option ℤ). offer.0 < o.0) offers other
+    (All-from_recursion (λ (o : ℕ × Option ℤ). offer.0 < o.0) offers (all-from_map (λ m. offer.0 < m) (λ (o : ℕ × Option ℤ). o.0) offers rising.0)) c
+
+same-first : (x y : ℕ × Option ℤ) (xs ys : List (ℕ × Option ℤ)) → IsRising (codes (x ∷ xs)) → IsRising (codes (y ∷ ys)) → Contains (y ∷ ys) x → Contains (x ∷ xs) y → x ≡ y
+same-first x y xs ys first second there back =
+    elim (in-cases y ys x there) [
+      | inl e ↦ sym e
+      | inr later ↦ elim (in-cases x xs y back) [
+        | inl e ↦ e
+        | inr after ↦ let one = first-below x xs first y after in let two = first-below y ys second x later in absurd (omega arith)
+      ]
+    ]
+
+same-later : (x : ℕ × Option ℤ) (xs ys : List (ℕ × Option ℤ)) → IsRising (codes (x ∷ xs)) → ((z : ℕ × Option ℤ) → Contains (x ∷ xs) z → Contains (x ∷ ys) z) → (z : ℕ × Option ℤ) → Contains xs z → Contains ys z
+same-later x xs ys rising there z c =
+    elim (in-cases x ys z (there z (in-rest x xs z c))) [
+      | inl e ↦ let below = first-below x xs rising z c in let same : x.0 ≡ z.0 = ap (λ (o : ℕ × Option ℤ). o.0) e in absurd (omega arith)
+      | inr later ↦ later
+    ]
+
+-- instances whose codes rise are given by which they are
+same-rising : (xs ys : List (ℕ × Option ℤ)) → IsRising (codes xs) → IsRising (codes ys) → ((z : ℕ × Option ℤ) → Contains xs z → Contains ys z) → ((z : ℕ × Option ℤ) → Contains ys z → Contains xs z) → xs ≡ ys
+same-rising [] [] first second there back = refl
+same-rising [] (y ∷ ys) first second there back = absurd (in-none y (back y (in-first y ys)))
+same-rising (x ∷ xs) [] first second there back = absurd (in-none x (there x (in-first x xs)))
+same-rising (x ∷ xs) (y ∷ ys) first second there back =
+    let e : x ≡ y = same-first x y xs ys first second (there x (in-first x xs)) (back y (in-first y ys)) in
+    let second' = subst (λ (z : ℕ × Option ℤ). IsRising (codes (z ∷ ys))) (sym e) second in
+    let there' = subst (λ (z : ℕ × Option ℤ). (w : ℕ × Option ℤ) → Contains (x ∷ xs) w → Contains (z ∷ ys) w) (sym e) there in
+    let back' = subst (λ (z : ℕ × Option ℤ). (w : ℕ × Option ℤ) → Contains (z ∷ ys) w → Contains (x ∷ xs) w) (sym e) back in
+    subst (λ (z : ℕ × Option ℤ). x ∷ xs ≡ z ∷ ys) e (ap (λ l. x ∷ l) (same-rising xs ys first.1 second'.1 (same-later x xs ys first there') (same-later x ys xs second' back')))
+
+-- a sort by code puts instances whose codes differ into the order of their codes
+pub sorted-is : (offers sorted : List (ℕ × Option ℤ)) → AreApart (codes offers) → IsPermutation offers sorted → IsNonDecreasingBy (λ (o : ℕ × Option ℤ). o.0) sorted → sorted ≡ by_code offers
+sorted-is offers sorted apart moved order =
+    let back = IsPermutation-sym offers sorted moved in
+    let other = moved-by_code offers in
+    same-rising sorted (by_code offers)
+    (rising-sorted sorted order (λ code. let once = once-there code offers apart in omega (arith, sum_by-IsPermutation (hit code) offers sorted moved)))
+    (rising-by_code offers apart)
+    (λ z c. Contains-permutation offers (by_code offers) z other (Contains-permutation sorted offers z back c))
+    (λ z c. Contains-permutation offers sorted z moved (Contains-permutation (by_code offers) offers z (IsPermutation-sym offers (by_code offers) other) c))

@@ -1,0 +1,76 @@
+-- The processes of the plain form are sound.
+use Rattle.std.proofs.Common.{◌≡◌, zero, suc, ◌≤◌, List, [], ◌∷◌, Option, None, Some, length, map, refl, sym, ap, subst, arith}
+use Rattle.std.specs.List.{All, AllByRecursion}
+use Rattle.kmc_core.specs.Deck.{IsSoundProcess, IsSoundSide, IsWholeWant, dentates_in}
+use Rattle.kmc_base.specs.declared.ids.SpeciesId.{SpeciesId}
+use Rattle.pattern_types.specs.Edges.{edge_set, joined}
+use Rattle.pattern_types.specs.Parts.{PatternParts, parts}
+use Rattle.pattern_types.specs.Soundness.{IsSound as IsPattern}
+use Rattle.pattern_types.specs.declared.wanted.Wanted.{Wanted}
+use Rattle.pattern_types.specs.declared.wanted.Wanted.TheVariants.{Holds}
+use Rattle.plain_files.specs.Steps.{IsPlainState, IsPlainStep, Step}
+use Rattle.species_book.specs.Book.{Book}
+use Rattle.kmc_run.specs.PlainDecks.{plain_process, side_of, wanted_of}
+
+-- a side of no edges and one vertex
+abbrev one_vertex : Wanted → PatternParts
+one_vertex wanted = parts [] (None ∷ []) (wanted ∷ [])
+
+no_edges : edge_set (joined []) ≡ []
+unfolding edge_set
+no_edges = refl
+
+pub is_one_vertex : (state : Option SpeciesId) → side_of state ≡ one_vertex (wanted_of state)
+is_one_vertex state = ap (λ edges. parts edges (None ∷ []) (wanted_of state ∷ [])) no_edges
+
+-- one vertex is a pattern
+pub is_pattern : (wanted : Wanted) → IsPattern (one_vertex wanted)
+is_pattern wanted = record {
+  some = omega arith;
+  few = omega arith;
+  typed = refl;
+  edged = refl;
+  connected = λ v u lo hi lo2 hi2. ([], (let one : v ≡ u = omega arith in one));
+  dentates = λ i j d before within. absurd (omega arith);
+  species = λ i j d before within. absurd (omega arith);
+}
+
+-- what holds of the only member holds of each
+all_one : {X : Type 0} (P : X → Type 0) (x : X) → P x → All P (x ∷ [])
+all_one P x p zero d within = p
+all_one P x p (suc k) d within = absurd (omega arith)
+
+-- the numbers of dentates of a book are in range, and there is one for each surface species
+pub record HasDentates (book : Book) : Type 0 where
+  pub range : All (λ d. (1 ≤ d) × (d ≤ 8)) book.dentates
+  pub one_each : length book.dentates ≡ length book.surface
+
+whole_want : (book : Book) → HasDentates book → (state : Option SpeciesId) → IsPlainState book state → IsWholeWant (dentates_in book) (wanted_of state ∷ []) (wanted_of state)
+whole_want book has None plain = tt
+whole_want book has (Some species) plain =
+    let known = plain species refl in
+    let range = has.range species.0 0 (omega (arith, known.0, has.one_each)) in (
+      omega arith,
+      range.0,
+      λ d lo hi. (0, omega arith, ap (Holds 1 species) (let one : 1 ≡ d = omega (arith, known.1) in one)),
+    )
+
+-- a side of a plain step is sound
+sound_side : (book : Book) → HasDentates book → (state : Option SpeciesId) → IsPlainState book state → IsSoundSide (dentates_in book) (side_of state)
+sound_side book has state plain =
+    subst (IsSoundSide (dentates_in book)) (sym (is_one_vertex state))
+    (record { pattern = is_pattern (wanted_of state); whole = all_one (IsWholeWant (dentates_in book) (wanted_of state ∷ [])) (wanted_of state) (whole_want book has state plain) })
+
+-- the processes of plain steps are sound
+pub sound_steps : (book : Book) → HasDentates book → (steps : List Step) → AllByRecursion (IsPlainStep book) steps → AllByRecursion (IsSoundProcess (dentates_in book)) (map plain_process steps)
+sound_steps book has [] all = tt
+sound_steps book has (step ∷ steps) all = (
+  record {
+    before = sound_side book has step.before all.0.before;
+    after = sound_side book has step.after all.0.after;
+    edges = refl;
+    types = refl;
+    activation = omega (arith, all.0.activation);
+  },
+  sound_steps book has steps all.1,
+)

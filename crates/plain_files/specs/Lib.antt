@@ -1,0 +1,5 @@
+pub mod Energetics
+pub mod Mechanism
+pub mod Names
+pub mod Steps
+pub mod Text

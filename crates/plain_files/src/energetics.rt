@@ -1,0 +1,20 @@
+//! The plain form of the energetics file.
+
+ghost use Rattle.std.specs.Prelude.{◌≡◌};
+ghost use Rattle.plain_files.specs.Energetics.{is_plain_energetics};
+
+use crate::text::{nothing_more, words_only};
+
+/// The text is the opening and the closing word of an energetics file.
+#[tactic(auto, unfolding(crate::specs::Energetics::is_plain_energetics))]
+pub fn is_energetics(text: &[u8]) -> bool
+    ensures { result ≡ is_plain_energetics text.now }
+{
+    let Some(rest) = words_only(b"energetics", text) else {
+        return false;
+    };
+    match words_only(b"end_energetics", rest) {
+        Some(rest) => nothing_more(rest).is_some(),
+        None => false,
+    }
+}

@@ -1,0 +1,21 @@
+//! The energetics file and the mechanism file in their plain form, the only one that is built: each line has its words one
+//! space apart and ends with LF, and there is nothing else.
+//!
+//! `is_energetics` says whether an energetics file is its opening and its closing word. `read_mechanism` gives exactly the
+//! steps of a mechanism file, each on one site and over the species of a book, or says that the text is not of the plain
+//! form. Each file is read in one pass from its front. The crate stands on `species_book` for the names of species, and on
+//! `kmc_base`.
+#![tactic(auto)]
+
+mod energetics;
+mod mechanism;
+mod name;
+mod step_text;
+mod text;
+
+pub use energetics::is_energetics;
+pub use mechanism::read_mechanism;
+pub use step_text::StepText;
+
+#[cfg(test)]
+mod tests;
