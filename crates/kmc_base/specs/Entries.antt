@@ -37,8 +37,8 @@ abbrev pub kept_or : Option ℕ → Option Entry → Entry → Entry
 kept_or fired None fresh = fresh
 kept_or fired (Some old) fresh = if same_rate old.lg fresh.lg && not (is_fired fired fresh.code) then old else fresh
 
--- The rule of keeping: an instance that was there with the same rate, and was not the one fired, keeps its
--- entry; every other instance gets the fresh one.
+-- Which waiting times are kept after an event: an instance that was there with the same rate, and was not the one
+-- fired, keeps its entry and with it its time; every other instance gets the fresh one.
 abbrev pub chosen : List Entry → Option ℕ → Entry → Entry
 chosen old fired fresh = kept_or fired (entry_at fresh.code old) fresh
 

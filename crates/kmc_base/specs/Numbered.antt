@@ -8,7 +8,7 @@ pub record Numbered : Type 0 where
   pub failing : List ℕ
   pub made : ℕ
 
--- no call was made yet
+-- no call was made yet; those of these numbers will fail
 abbrev pub first_of : List ℕ → Numbered
 first_of failing = record { failing = failing; made = 0 }
 

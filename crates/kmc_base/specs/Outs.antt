@@ -41,6 +41,6 @@ appended out piece outs = with_out outs out (bytes_of outs out ++ piece)
 abbrev pub MayBegin : OutId → Outs → Outs → Type 0
 MayBegin out before after = (after ≡ before) ⊎ (after ≡ begun out before)
 
--- what an append that failed leaves: the outputs as they were, or a front of the piece added
+-- what an append that failed leaves: the outputs as they were, or the first bytes of the piece added
 abbrev pub MayAppend : OutId → List ℕ → Outs → Outs → Type 0
 MayAppend out piece before after = (after ≡ before) ⊎ ((n : ℕ) × (after ≡ appended out (take n piece) before))

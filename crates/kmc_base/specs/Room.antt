@@ -1,4 +1,4 @@
--- An output in memory, which stays within its room.
+-- An output in memory, and the room that is reserved for its bytes.
 use Rattle.std.specs.Prelude.{◌≡◌, ℕ, ◌≤◌, List, [], Option, None, Some, if◌then◌else◌, false, length, vec_capacity}
 use Rattle.kmc_base.specs.declared.output.Output.{Output}
 

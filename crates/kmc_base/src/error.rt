@@ -26,7 +26,7 @@ impl<T: Drop> From<AllocFailed<T>> for OutOfMemory {
     }
 }
 
-/// The answer of a file, an output or a screen that failed. Its count of faults rose in that call.
+/// The answer of an output or a screen that failed. Its count of faults rose in that call.
 #[derive(Clone, Copy, Debug, PartialEq, Eq, Hash)]
 pub struct Failed;
 

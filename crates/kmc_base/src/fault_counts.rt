@@ -1,9 +1,9 @@
-ghost use Rattle.std.specs.Prelude.{◌≡◌, ℕ};
+ghost use Rattle.std.specs.Prelude.{◌≡◌};
 
 use crate::ids::{FileId, OutId};
 
-/// How often each input file and each output has failed: counts from 0 that stand still at the
-/// end of 64 bits.
+/// How often each input file and each output has failed: counts from 0 that stay at 2^64 - 1 once
+/// they are there.
 #[derive(Clone, Copy, Debug, PartialEq, Eq)]
 pub struct FaultCounts {
     /// By input file, in the order of `FileId`.
@@ -13,7 +13,6 @@ pub struct FaultCounts {
 }
 
 impl FaultCounts {
-    ghost use Rattle.std.specs.Prelude.{replicate};
     ghost use Rattle.kmc_base.specs.FaultCounts.{read_failed, write_failed, reads_of, writes_of};
     ghost use Rattle.kmc_base.specs.Faults.{Rose, SameCounts, SameCountsBut};
 

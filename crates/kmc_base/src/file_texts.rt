@@ -30,7 +30,6 @@ impl Model for FileTexts {
 }
 
 impl FileTexts {
-    ghost use Rattle.std.specs.Prelude.{◌++◌};
     ghost use Rattle.kmc_base.specs.Files.{files_of, file_of, with_file, no_files};
 
     fn empty() -> Self

@@ -1,4 +1,4 @@
-ghost use Rattle.std.specs.Prelude.{◌≡◌, ℕ, ◌++◌, List, Option, OnOk, OnErr, IfSome, IsErrOf};
+ghost use Rattle.std.specs.Prelude.{◌≡◌, ℕ, Option, OnOk, OnErr, IfSome, IsErrOf};
 ghost use Rattle.kmc_base.specs.Faults.{Rose, SameCounts, SameCountsBut};
 ghost use Rattle.kmc_base.specs.Files.{Files, Loads, UnlessFailed, file_of};
 ghost use Rattle.kmc_base.specs.Outs.{Outs, MayAppend, MayBegin, appended, begun};
@@ -15,7 +15,7 @@ use std::alloc::Global;
 pub enum LoadFault {
     /// There is no such file.
     Absent,
-    /// It has more bytes than were asked for.
+    /// It has more than `max` bytes.
     TooLong,
     /// Reading it failed.
     Failed,
@@ -41,7 +41,12 @@ pub trait Folder {
     /// The bytes of its outputs, where it tells them.
     ghost outs: { Self → Option Outs };
 
-    /// Reads a file of at most `max` bytes, whole.
+    /// Reads a whole file.
+    ///
+    /// # Errors
+    ///
+    /// Where the folder tells its files, `Absent` comes exactly where there is no such file, and
+    /// `TooLong` exactly where it has more than `max` bytes.
     fn load(&mut self, alloc: Global, file: FileId, max: usize) -> Result<Vec<u8>, LoadFault>
         ensures answer { IfSome (files self.old) (λ told. Loads (file_of told file) max result) }
         ensures cause { IsErrOf result LoadFault.Failed → Rose (read_faults self.old file) (read_faults self.new file) }
@@ -51,7 +56,11 @@ pub trait Folder {
         ensures files { files self.new ≡ files self.old }
         ensures outs { outs self.new ≡ outs self.old };
 
-    /// Makes an output empty, and makes it where it is not there.
+    /// Makes an output empty, and creates it where it is not there.
+    ///
+    /// # Errors
+    ///
+    /// A begin that failed leaves the output as it was, or empty.
     fn begin(&mut self, out: OutId) -> Result<(), Failed>
         ensures ok { OnOk result (Tells (outs self.old) (outs self.new) (λ then now. now ≡ begun out then)) }
         ensures err { OnErr result (Tells (outs self.old) (outs self.new) (MayBegin out)) }
@@ -61,7 +70,11 @@ pub trait Folder {
         ensures reads { SameCounts (read_faults self.old) (read_faults self.new) }
         ensures files { files self.new ≡ files self.old };
 
-    /// Adds a piece at the end of an output. An output that is not there counts as empty.
+    /// Adds bytes at the end of an output. An output that is not there counts as empty.
+    ///
+    /// # Errors
+    ///
+    /// An append that failed may have added the first of the bytes.
     fn append(&mut self, out: OutId, piece: &[u8]) -> Result<(), Failed>
         ensures ok { OnOk result (Tells (outs self.old) (outs self.new) (λ then now. now ≡ appended out piece.now then)) }
         ensures err { OnErr result (Tells (outs self.old) (outs self.new) (MayAppend out piece.now)) }

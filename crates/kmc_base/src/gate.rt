@@ -1,13 +1,13 @@
 use std::marker::Sync;
 
-/// What is called between the steps of the workers: a place for a test to hold one of them.
+/// What a worker calls after each step on a piece of an event, so that a test may hold it there.
 ///
 /// It answers nothing and changes no value of the simulation.
 pub trait Gate: Sync {
-    /// The worker has claimed a piece.
+    /// The worker has claimed a piece; both are numbered from 0.
     fn after_claim(&self, worker: u32, piece: u32);
 
-    /// The worker has put a piece.
+    /// The worker has put the result of a piece back.
     fn after_put(&self, worker: u32, piece: u32);
 }
 

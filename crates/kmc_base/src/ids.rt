@@ -5,32 +5,41 @@ pub const MAX_SITES: u32 = 65_536;
 #[derive(Clone, Copy, Debug, PartialEq, Eq, PartialOrd, Ord, Hash)]
 pub struct SiteId(pub u32);
 
-/// A surface species, by its place in the deck's list, from 0.
+/// A surface species, by its place in `surf_specs_names`, from 0.
 #[derive(Clone, Copy, Debug, PartialEq, Eq, PartialOrd, Ord, Hash)]
 pub struct SpeciesId(pub u16);
 
-/// An elementary process, in deck order, from 0.
+/// A process, in deck order from 0: an elementary step in one direction. A reversible step gives two,
+/// the forward one first.
 #[derive(Clone, Copy, Debug, PartialEq, Eq, PartialOrd, Ord, Hash)]
 pub struct ProcId(pub u16);
 
-/// An energetic cluster, in deck order, from 0.
+/// A cluster of the cluster expansion of the energy (Nielsen et al. 2013), in deck order from 0.
 #[derive(Clone, Copy, Debug, PartialEq, Eq, PartialOrd, Ord, Hash)]
 pub struct ClusterId(pub u16);
 
-/// An input file of a deck, in the order in which a deck is read.
+/// An input file of a deck, in the order in which they are read.
 #[derive(Clone, Copy, Debug, PartialEq, Eq, PartialOrd, Ord, Hash)]
 pub enum FileId {
+    /// `simulation_input.dat`.
     Simulation,
+    /// `lattice_input.dat`.
     Lattice,
+    /// `energetics_input.dat`.
     Energetics,
+    /// `mechanism_input.dat`.
     Mechanism,
+    /// `state_input.dat`.
     State,
 }
 
-/// An output file, in the order in which outputs are begun.
+/// An output file, in the order in which they are begun.
 #[derive(Clone, Copy, Debug, PartialEq, Eq, PartialOrd, Ord, Hash)]
 pub enum OutId {
+    /// `history_output.txt`: configurations of the lattice.
     History,
+    /// `procstat_output.txt`: how often each process has fired.
     Procstat,
+    /// `specnum_output.txt`: the numbers of molecules of each species.
     Specnum,
 }

@@ -1,5 +1,6 @@
-//! What every layer of kmc shares: names of sites, species and files, moments, entries of the
-//! process list, and the folder, the screen and the gate through which a run meets the outside.
+//! What every layer of kmc shares: the numbers of sites, species, processes and files, the times at
+//! which instances fire, entries of the list of possible events, and the folder, the screen and the
+//! gate through which a run meets the outside.
 #![tactic(auto)]
 
 mod entry;

@@ -1,4 +1,4 @@
-ghost use Rattle.std.specs.Prelude.{◌≡◌, ◌↔◌, ℕ, max, IsErr, IsErrOf, IsTrue, IfOk, IfErr, OnOk, OnErr, Some, option_copied};
+ghost use Rattle.std.specs.Prelude.{◌≡◌, ◌↔◌, max, IsErr, IsErrOf, IsTrue, IfOk, IfErr, OnOk, OnErr, Some, option_copied};
 ghost use Rattle.kmc_base.specs.FaultCounts.{reads_of, writes_of};
 ghost use Rattle.kmc_base.specs.Faults.{Rose, SameCounts, SameCountsBut};
 ghost use Rattle.kmc_base.specs.Files.{file_of, files_of, Loads, UnlessFailed};
@@ -54,8 +54,8 @@ impl Model for MemoryFolder {
 }
 
 impl MemoryFolder {
-    /// A folder of these files, of which the first of an id counts, without outputs and without
-    /// room for them. The lists are the numbers, from 1, of the loads, begins and appends that fail.
+    /// A folder of these files, without outputs and without room for them. Of two files with one id the
+    /// first counts. The lists are the numbers, from 1, of the loads, begins and appends that fail.
     pub fn new(
         files: Vec<(FileId, Vec<u8>)>,
         loads: Vec<u64>,
@@ -86,7 +86,11 @@ impl MemoryFolder {
         }
     }
 
-    /// Reserves room for so many bytes of each output, beyond what is there.
+    /// Reserves room for `bytes` bytes in all of each output. Less room than there is changes nothing.
+    ///
+    /// # Errors
+    ///
+    /// Where memory is refused, the folder comes back as it was.
     pub fn with_room(mut self, bytes: usize) -> Result<MemoryFolder, (MemoryFolder, OutOfMemory)>
         ensures ok { IfOk result (λ folder. folder ≡ record self { room = max self.room bytes }) }
         ensures err { IfErr result (λ refused. refused.0 ≡ self) }

@@ -1,4 +1,4 @@
-ghost use Rattle.std.specs.Prelude.{◌≡◌, ◌↔◌, ◌≤◌, ℕ, IsErr, IsTrue, IfOk, IfErr, OnOk, OnErr, Some, [], option_copied};
+ghost use Rattle.std.specs.Prelude.{◌≡◌, ◌↔◌, ◌≤◌, IsErr, IsTrue, IfOk, IfErr, OnOk, OnErr, Some, [], option_copied};
 ghost use Rattle.kmc_base.specs.Faults.{Rose};
 ghost use Rattle.kmc_base.specs.InMemory.{after_put};
 ghost use Rattle.kmc_base.specs.Numbered.{first_of, next_fails};
@@ -39,6 +39,10 @@ impl Model for MemorySink {
 impl MemorySink {
     /// A screen that has taken nothing, with room for so many bytes. The list has the numbers,
     /// from 1, of the puts that fail.
+    ///
+    /// # Errors
+    ///
+    /// Where memory is refused, the list comes back.
     pub fn new(
         alloc: Global,
         bytes: usize,

@@ -1,4 +1,4 @@
-ghost use Rattle.std.specs.Prelude.{◌≡◌, ℕ, ◌+◌, ◌≤◌, ◌++◌, [], None, Some, max, length, nat_le, vec_capacity, unwrap_or, option_copied, OnOk, OnErr};
+ghost use Rattle.std.specs.Prelude.{◌≡◌, ℕ, ◌+◌, ◌≤◌, ◌++◌, [], None, Some, max, length, nat_le, vec_capacity, unwrap_or, option_copied, OnOk};
 ghost use Rattle.std.specs.Bool.{OnTrue, OnFalse};
 
 use std::alloc::{AllocError, Global};

@@ -14,11 +14,15 @@ pub trait Sink {
     /// The bytes that it has taken, where it tells them.
     ghost taken: { Self → Option (List ℕ) };
 
-    /// Takes a piece.
+    /// Prints bytes, after those that it has taken.
+    ///
+    /// # Errors
+    ///
+    /// A put that failed may have taken the first of the bytes.
     fn put(&mut self, piece: &[u8]) -> Result<(), Failed>
         ensures ok { OnOk result (Tells (taken self.old) (taken self.new) (λ then now. now ≡ then ++ piece.now)) }
 
-        // A front of the piece was taken.
+        // The first of the bytes were taken, or none.
         ensures err { OnErr result (Tells (taken self.old) (taken self.new) (λ then now. ((n : ℕ) × (now ≡ then ++ take n piece.now)))) }
         ensures cause { OnErr result (Rose (faults self.old) (faults self.new)) }
         ensures no_fault { OnOk result (faults self.new ≡ faults self.old) };
