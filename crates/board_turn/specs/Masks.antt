@@ -1,8 +1,8 @@
--- Sets of pieces as masks, and what the board's second word shows.
+-- Sets of pieces as masks, and what the board's second word, word 1, shows: holder * 2^48 + done mask.
 use Rattle.std.specs.Prelude.{ℕ, ◌/◌, ◌%◌, ◌≤◌}
 use Rattle.std.specs.Int.{bit_at}
 
--- the done mask of a word: its low 48 bits say which pieces are done
+-- the done mask of a word: its low 48 bits say which pieces are done (281474976710656 is 2^48)
 abbrev pub mask : ℕ → ℕ
 mask word = word % 281474976710656
 

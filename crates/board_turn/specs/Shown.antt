@@ -35,7 +35,7 @@ module _ {S K : Type 0} where
   abbrev pub HasTurn : Seat S (View K) → Type 0
   HasTurn seat = seat.me.0.holds ≡ true
 
-  -- it has not the turn
+  -- it does not have the turn
   abbrev pub IsIdle : Seat S (View K) → Type 0
   IsIdle seat = seat.me.0.holds ≡ false
 

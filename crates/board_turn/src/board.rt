@@ -1,5 +1,5 @@
 // The board, from its making to its close.
-ghost use Rattle.std.specs.Prelude.{◌≡◌, ℕ, ◌+◌, ◌^◌, ◌<◌, ◌≤◌, [], ◌∷◌, Some, length, slice_index_or, vec_len, vec_capacity, All, IfOk, IfErr};
+ghost use Rattle.std.specs.Prelude.{◌≡◌, ℕ, ◌+◌, ◌<◌, ◌≤◌, [], ◌∷◌, Some, length, slice_index_or, vec_len, vec_capacity, All, IfOk, IfErr};
 ghost use Rattle.board_turn.specs.Views.{first_owner};
 ghost use Rattle.board_turn.specs.Shown.{IsOf, number_of, claims_of, puts_of, joined_numbers, next_number, IsNew, IsOpening};
 
@@ -23,6 +23,7 @@ type Shared<B> = Table<Option<B>, View<<B as Parts>::Key>, <B as Parts>::Key, Or
 ///
 /// A word of the turn is `holder * 2^48 + done mask`. No call waits for another.
 pub struct Board<B: Parts> {
+    /// The two words and the slot, which clauses look at.
     pub table: Table<Option<B>, View<B::Key>, B::Key, Order<B>, Global>,
     /// How many pieces there are, from 1 to 48.
     pub pieces: u32,
@@ -30,10 +31,12 @@ pub struct Board<B: Parts> {
     ghost few: { (0 < pieces) × (pieces ≤ 48) },
 }
 
-/// What was claimed and done when a board was closed, as masks.
+/// What was claimed and done when a board was closed, as masks: bit `p` is for piece `p`.
 #[derive(Clone, Copy, Debug, PartialEq, Eq)]
 pub struct Report {
+    /// The pieces that some pass has claimed.
     pub claimed: u64,
+    /// The pieces of which a finding was put.
     pub done: u64,
 }
 
@@ -62,7 +65,9 @@ fn parts_of<B>(mut slots: Vec<Option<B>>) -> B
 }
 
 impl<B: Parts> Board<B> {
-    /// A board with these parts, whose done set is empty, its owner, and as many passes, numbered from 1.
+    /// A board with these parts, whose done set is empty, its owner, and `passes` passes, numbered from 1.
+    ///
+    /// A refusal hands the parts back.
     pub fn new(
         alloc: Global,
         parts: B,

@@ -19,7 +19,8 @@ fn piece_bit(piece: u32) -> u64
 }
 
 impl<B: Parts> Board<B> {
-    /// Claims the least piece that the pass hasn't found claimed. `None` where it has found every piece claimed.
+    /// Claims the least piece that the pass has not found claimed, and gives its number, from 0. `None` where it has found
+    /// every piece claimed.
     pub fn claim(&self, pass: &mut Pass<B>) -> Option<u32>
         requires own { IsOf self.now.table.shared.table_id self.now.table.shared.key pass.old.seat }
         ensures own { IsOf self.now.table.shared.table_id self.now.table.shared.key pass.new.seat }

@@ -9,7 +9,7 @@ pub trait Parts: Sized {
     /// What the findings are judged against. It is handed to the board, and no running code looks at it.
     type Key: Drop + Send;
 
-    /// What is put for a piece.
+    /// What a worker found for a piece, to be put.
     type Finding;
 
     // The value is a patch of its done set under the key. The board never opens this.
@@ -38,7 +38,7 @@ pub trait Parts: Sized {
         ensures patch { OnOk result ((key : Self.Key) → is_patch self.old key → is_right key finding → is_patch self.new key) }
         ensures refused { IfErr result (λ back. (back.0 ≡ finding) × (self.new ≡ self.old)) };
 
-    /// The pieces that are done.
+    /// The pieces that are done, as a mask.
     fn done(&self) -> u64
         ensures { result ≡ done_set self.now };
 }

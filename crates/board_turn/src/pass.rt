@@ -1,5 +1,5 @@
 // What steps on a board.
-ghost use Rattle.std.specs.Prelude.{◌≡◌, ◌+◌, ◌^◌, ◌<◌, ◌≤◌, [], ◌∷◌, None, true, false};
+ghost use Rattle.std.specs.Prelude.{◌≡◌, ◌^◌, ◌<◌, ◌≤◌, [], ◌∷◌, None, true, false};
 ghost use Rattle.board_turn.specs.Masks.{Within};
 
 use crate::parts::Parts;

@@ -18,7 +18,7 @@ impl<B: Parts> TableRule<Option<B>, View<B::Key>, B::Key> for Order<B> {
     ghost first = { first_owner };
 }
 
-// Word 0: the owner's view is cut in two, of which the second is a new pass.
+// A split of the owner's seat: the second part is a new pass.
 pub struct Deal;
 
 impl<K> Split<View<K>> for Deal {
@@ -29,7 +29,7 @@ impl<K> Split<View<K>> for Deal {
     ghost right = { new_pass };
 }
 
-// Word 0: a pass becomes the owner's.
+// A join: a pass becomes the owner's.
 pub struct Gather;
 
 impl<K> Join<View<K>> for Gather {
@@ -40,7 +40,7 @@ impl<K> Join<View<K>> for Gather {
     ghost spent = { spent };
 }
 
-// Word 0: after a join.
+// A load of word 0, after a join.
 pub struct Audit;
 
 impl<S, K> Play<S, View<K>> for Audit {
@@ -49,7 +49,7 @@ impl<S, K> Play<S, View<K>> for Audit {
     ghost then = { Audited };
 }
 
-// Word 0: one piece.
+// A fetch_or of word 0, with the bit of one piece.
 pub struct Claim;
 
 impl<S, K> Play<S, View<K>> for Claim {
@@ -58,7 +58,7 @@ impl<S, K> Play<S, View<K>> for Claim {
     ghost then = { Claimed };
 }
 
-// Word 1: a load.
+// A load of word 1.
 pub struct Look;
 
 impl<S, K> Play<S, View<K>> for Look {
@@ -67,7 +67,7 @@ impl<S, K> Play<S, View<K>> for Look {
     ghost then = { Looked };
 }
 
-// Word 1 and the slot: the parts are out.
+// A compare-and-exchange of word 1, which takes the turn and the slot with the parts.
 pub struct Take<B> {
     marker: PhantomData<B>,
 }
@@ -78,7 +78,7 @@ impl<B: Parts> Play<Option<B>, View<B::Key>> for Take<B> {
     ghost then = { Tried B.is_patch B.done_set };
 }
 
-// Word 1 and the slot: the parts are home.
+// A store to word 1, which frees the turn and gives the slot back.
 pub struct Give;
 
 impl<S, K> Play<S, View<K>> for Give {

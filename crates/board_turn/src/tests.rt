@@ -1,6 +1,6 @@
-ghost use Rattle.std.specs.Prelude.{◌≡◌, ℕ, ◌+◌, ◌*◌, ◌<◌, ◌≤◌, length, slice_index, All, IfOk};
+ghost use Rattle.std.specs.Prelude.{◌≡◌, ℕ, ◌+◌, ◌*◌, ◌<◌, length, slice_index, All, IfOk};
 ghost use Rattle.std.specs.Int.{bit_at};
-ghost use Rattle.board_turn.specs.Shown.{IsOf, IsIdle, claims_of, joined_numbers, next_number};
+ghost use Rattle.board_turn.specs.Shown.{IsOf, IsIdle, claims_of};
 
 use crate::{Board, Owner, Parts, Pass, PutRefused, Report};
 use kmc_base::OutOfMemory;

@@ -14,6 +14,7 @@ use std::snapshot::Snapshot;
 /// the pass shows. That set has every piece of the done mask at which the turn was taken, and each further piece of it
 /// is among the claims that the pass had then. It ends in `Board::give`.
 pub struct Turn<B: Parts> {
+    /// The parts, out of the board's slot.
     pub parts: B,
     /// A picture of the pass when it took the turn, for clauses: its key, its number, its claims and the done mask.
     pub taker: Snapshot<Seat<Option<B>, View<B::Key>>>,

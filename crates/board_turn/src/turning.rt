@@ -1,7 +1,7 @@
 // The turn: taken, given, and both round one put.
 ghost use Rattle.std.specs.Prelude.{◌≡◌, ℕ, ◌^◌, OnOk, IfOk, IfErr, bit_and, bit_or};
 ghost use Rattle.std.specs.Int.{bit_at};
-ghost use Rattle.board_turn.specs.Shown.{IsOf, IsIdle, claims_of, puts_of, found_words, number_of, KeepsClaims, IsTaker, IsTaking, IsBusy, FoundTwice};
+ghost use Rattle.board_turn.specs.Shown.{IsOf, IsIdle, claims_of, puts_of, found_words, KeepsClaims, IsTaker, IsTaking, IsBusy, FoundTwice};
 ghost use Rattle.board_turn.specs.Refusals.{IsRefusal};
 
 use crate::board::{Board, TURN};
@@ -20,7 +20,8 @@ const HOLDER: u64 = 1 << 48;
 const PARTS: usize = 0;
 
 impl<B: Parts> Board<B> {
-    /// Takes the turn, where no pass has it. `Busy` is by one look at the word, or by a look and a try.
+    /// Takes the turn, where no pass has it, by a load of word 1 and a compare-and-exchange of it. `Busy` comes after the
+    /// load where the word has a holder, and after the compare-and-exchange where the word has changed.
     pub fn take(&self, pass: &mut Pass<B>) -> Result<Turn<B>, Busy>
         requires own { IsOf self.now.table.shared.table_id self.now.table.shared.key pass.old.seat }
         requires idle { IsIdle pass.old.seat }
@@ -49,7 +50,7 @@ impl<B: Parts> Board<B> {
         })
     }
 
-    /// Puts the parts home and frees the turn. The pieces that became done join the puts of the pass.
+    /// Puts the parts back into the slot and frees the turn. The pieces that became done join the puts of the pass.
     pub fn give(&self, pass: &mut Pass<B>, turn: Turn<B>)
         requires own { IsOf self.now.table.shared.table_id self.now.table.shared.key pass.old.seat }
         requires taken { IsTaker pass.old.seat turn.taker.value }

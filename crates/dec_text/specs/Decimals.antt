@@ -20,7 +20,7 @@ is_point b = b == 46
 abbrev pub is_mantissa_byte : ℕ → Bool
 is_mantissa_byte b = is_digit b || is_point b
 
--- 'e', 'E', 'd' or 'D'
+-- 'e', 'E', or Fortran's 'd' or 'D'
 abbrev pub is_exponent_letter : ℕ → Bool
 is_exponent_letter b = b == 101 || b == 69 || b == 100 || b == 68
 
@@ -61,6 +61,7 @@ counted mantissa = without_trailing_zeros (take 18 (significant mantissa))
 abbrev pub places : List ℕ → ℕ
 places mantissa = length (after_first is_point mantissa)
 
+-- the decimal 0
 abbrev pub zero_decimal : Scientific
 zero_decimal = record { negative = false; digits = 0; power = pos 0 }
 
@@ -76,7 +77,7 @@ scientific negative mantissa exponent =
     }
     else zero_decimal
 
--- a number whose power is within 400, or the fault that it is not
+-- a number whose power is from -400 to 400, or the fault that it is not
 abbrev pub within_power : Scientific → Result Scientific DecimalFault
 within_power n = if le_z (negsuc 399) n.power && le_z n.power (pos 400) then Ok n else Err Power
 
@@ -86,20 +87,21 @@ decimal_from negative mantissa None = Err Form
 decimal_from negative mantissa (Some exponent) =
     if is_mantissa mantissa then within_power (scientific negative mantissa (signed exponent.0 exponent.1)) else Err Form
 
--- a word's digits and points behind the sign, and what follows them
+-- a word's digits and points behind the sign
 abbrev pub mantissa_of : List ℕ → List ℕ
 mantissa_of word = take_while is_mantissa_byte (after_sign word)
 
+-- what follows them
 abbrev pub after_mantissa : List ℕ → List ℕ
 after_mantissa word = drop (prefix_len is_mantissa_byte (after_sign word)) (after_sign word)
 
 -- The decimal that a word stands for: an optional sign, digits with an optional point, an optional
--- exponent. Form is the fault of every other word, Power that of a number whose power is past 400.
+-- exponent. Form is the fault of every other word, Power that of a number whose power is outside -400 to 400.
 abbrev pub decimal_of : List ℕ → Result Scientific DecimalFault
 decimal_of word = decimal_from (is_negative word) (mantissa_of word) (exponent_of (after_mantissa word))
 
 -- What every decimal keeps: its digits are below 10^18; zero has power 0 and no sign; other digits do not
--- end with 0, and their power is within 400.
+-- end with 0, and their power is from -400 to 400.
 pub record IsDecimal (n : Scientific) : Type 0 where
   pub digits_fit : n.digits < 10 ^ 18
   pub power_low : negsuc 399 ≤ℤ n.power

@@ -6,7 +6,7 @@ abbrev pub last_digits : ℕ → ℕ → List ℕ
 last_digits zero n = []
 last_digits (suc k) n = last_digits k (n / 10) ++ (48 + n % 10) ∷ []
 
--- a number of units of the last decimal: the whole part, a point and the decimals
+-- the number n * 10^-decimals: the whole part, a point and the decimals
 abbrev pub fixed_size : ℕ → ℕ → List ℕ
 fixed_size n decimals = decimal (n / 10 ^ decimals) ++ 46 ∷ last_digits decimals n
 

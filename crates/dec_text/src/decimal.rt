@@ -23,14 +23,17 @@ use crate::faults::DecimalFault;
 use crate::significand::{significant_part, without_zeros};
 use std::marker::Model;
 
-/// A decimal number: `digits` times ten to the `power`, with a sign.
+/// A decimal number: `digits * 10^power`, with a sign.
 ///
 /// Its digits are below 10^18. Zero has power 0 and no sign. Other digits are not divisible by 10, and
 /// their power is within -400 to 400. A decimal that is made by hand keeps this too.
 #[derive(Clone, Copy, Debug, PartialEq, Eq)]
 pub struct Decimal {
+    /// Whether the number is below 0.
     pub negative: bool,
+    /// The significant digits as a whole number.
     pub digits: u64,
+    /// The power of ten.
     pub power: i32,
 }
 
@@ -49,8 +52,13 @@ impl Model for Decimal {
 /// Reads a decimal.
 ///
 /// It is an optional sign, digits with an optional point and at least one digit, and an optional
-/// exponent: `e`, `E`, `d` or `D`, an optional sign and at least one digit. The first 18 significant
-/// digits count and the rest are dropped; then zeros at the end go into the power.
+/// exponent: `e`, `E`, or Fortran's `d` or `D`, an optional sign and at least one digit. The first 18
+/// significant digits count and the rest are dropped; then zeros at the end go into the power.
+///
+/// # Errors
+///
+/// `Form` exactly where the word has another form, `Power` exactly where the digits are not 0 and the
+/// power is outside -400 to 400.
 pub fn read_decimal(word: &[u8]) -> Result<Decimal, DecimalFault>
     ensures { result ≡ decimal_of word.now }
 {

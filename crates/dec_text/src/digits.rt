@@ -1,4 +1,4 @@
-ghost use Rattle.std.specs.Prelude.{◌≡◌, ◌+◌, ◌*◌, ◌^◌, ◌<◌, ◌≤◌, min};
+ghost use Rattle.std.specs.Prelude.{◌≡◌, ◌+◌, ◌*◌, ◌<◌, min};
 ghost use Rattle.std.specs.List.{list_all};
 ghost use Rattle.dec_text.specs.Digits.{are_digits, is_digit, number};
 ghost use Rattle.dec_text.specs.Wholes.{after_plus, whole_number};
@@ -8,7 +8,11 @@ use crate::faults::NotWhole;
 /// Where the reading of a whole number stops counting.
 pub const CAP: u128 = 1 << 100;
 
-/// Reads a whole number: one digit or more, after an optional `+`, of a number below 2^64.
+/// Reads a whole number below 2^64: one digit or more, after an optional `+`.
+///
+/// # Errors
+///
+/// `NotWhole` exactly where the word is none.
 pub fn read_whole(word: &[u8]) -> Result<u64, NotWhole>
     ensures { result ≡ whole_number word.now }
 {

@@ -6,7 +6,7 @@ use std::fmt;
 pub enum DecimalFault {
     /// It has not the form of a decimal.
     Form,
-    /// Its digits are not 0, and its power is outside -400 to 400.
+    /// Its digits are not 0, and its power of ten is outside -400 to 400.
     Power,
 }
 

@@ -6,8 +6,8 @@ ghost use Rattle.dec_text.specs.Fixed.{Extends, fixed_text, last_digits};
 
 use kmc_base::OutOfMemory;
 
-/// Appends a number of units of the last decimal: a minus for a negative number, the whole part, a
-/// point, and so many decimals.
+/// Appends the number `value * 10^-decimals`: a minus where it is negative, the whole part, a point, and
+/// so many decimals. The value 1500 with 3 decimals is `1.500`.
 ///
 /// # Errors
 ///
@@ -85,7 +85,7 @@ fn push_digit(number: u128, out: &mut Vec<u8>) -> Result<(), OutOfMemory>
     Ok(())
 }
 
-/// What is printed of a number of up to 18 digits is read back as that number.
+/// The law that what is printed of a number of up to 18 digits is read back as that number.
 pub fn printed_reads_back()
     ensures { (v : ℤ) (decimals : ℕ) → decimals ≤ 18 → unsigned_abs v < 10 ^ 18 → ReadsBack v decimals }
 {}

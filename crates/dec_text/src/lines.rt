@@ -7,10 +7,12 @@ ghost use Rattle.dec_text.specs.Spans.{AreWithin, IsWithin, line_at, plain_line_
 use kmc_base::{Items, OutOfMemory};
 use std::alloc::Global;
 
-/// The place of a word in a text: it begins at the byte `start` and ends before the byte `end`.
+/// The place of a word in a text, by its bytes counted from 0.
 #[derive(Clone, Copy, Debug, PartialEq, Eq)]
 pub struct Span {
+    /// The place of its first byte.
     pub start: usize,
+    /// The place behind its last byte.
     pub end: usize,
 }
 
@@ -40,7 +42,8 @@ pub struct Line {
 /// Gives the lines of a text that have a word, in order, with the place of each word.
 ///
 /// Lines end at LF; a last piece that is empty is no line. From the first `#` of a line on it is a
-/// comment. Words are runs of bytes other than space, tab, CR, LF and `#`.
+/// comment. Words are runs of bytes other than space, tab, CR, LF and `#`. The text may be one of any
+/// bytes; it need not be UTF-8.
 pub fn split(alloc: Global, bytes: &[u8]) -> Result<Vec<Line>, OutOfMemory>
     requires { length bytes.now < 2 ^ 32 - 1 }
     ensures words { IfOk result (λ lines. map (plain_line_at bytes.now) lines.items ≡ lines_of bytes.now) }

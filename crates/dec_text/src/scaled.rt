@@ -9,7 +9,8 @@ use crate::faults::OutOfRange;
 const PAST: u128 = 1_000_000_000_000_000_000_000_000_000_000_000_001;
 
 impl Decimal {
-    /// The decimal times ten to the number of places, rounded half away from zero.
+    /// The decimal times `10^places`, rounded half away from zero: an energy in eV with 9 places is in
+    /// neV.
     ///
     /// # Errors
     ///

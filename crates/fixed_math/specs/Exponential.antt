@@ -1,4 +1,4 @@
--- The power of two of a number z in units of 2^-30, as a pair (m, q) that stands for m * 2^(q - 30),
+-- Two to the power of a number z in units of 2^-30, as a pair (m, q) that stands for m * 2^(q - 30),
 -- where m is at least 2^30 and below 2^31.
 use Rattle.std.specs.Prelude.{ℕ, ◌+◌, ◌*◌, ◌/◌, ◌^◌, List, [], ◌∷◌, ℤ, pos, unsigned_abs}
 use Rattle.std.specs.Int.{int_div_euclid, int_rem_euclid}

@@ -1,5 +1,6 @@
--- The time at which an instance of a process fires (the first reaction method of kinetic Monte Carlo;
--- Stamatakis and Vlachos 2011): the present time plus a gap over the rate, in as (10^-18 s).
+-- The time at which an instance of a process fires (the first reaction method of Gillespie 1976, on lattices
+-- Stamatakis and Vlachos 2011): the present time plus an exponential waiting time, which is the gap of a draw
+-- over the rate. Times are in as (10^-18 s).
 use Rattle.std.specs.Prelude.{ℕ, ◌+◌, ◌*◌, ◌/◌, ◌^◌, ◌<◌, ◌≤◌, max, ℤ, pos, negsuc, ◌-ℤ◌, ◌<ℤ◌, ◌⊎◌, int_le, nat_le, ◌&&◌, if◌then◌else◌, Option, Some, None, ⊤}
 use Rattle.kmc_base.specs.declared.moment.When.{When}
 use Rattle.kmc_base.specs.declared.moment.When.TheVariants.{At, Never}
@@ -11,12 +12,12 @@ abbrev pub scaled_down : ℕ → ℤ → ℕ
 scaled_down n (pos e) = n * 2 ^ e
 scaled_down n (negsuc e) = n / 2 ^ (e + 1)
 
--- the mean wait 1 / rate in as, as a pair (m, q) that stands for m * 2^(q - 30), of a rate in 1/s whose
+-- the mean waiting time 1 / rate in as, as a pair (m, q) that stands for m * 2^(q - 30), of a rate in 1/s whose
 -- base-2 logarithm in units of 2^-30 is lg; 64204076376 is the logarithm of 10^18, eighteen times that of ten
 abbrev pub mean_wait : ℤ → ℕ × ℤ
 mean_wait lg = exp2_of (pos 64204076376 -ℤ lg)
 
--- the wait in as: the gap of the draw w times the mean wait, rounded down, and at least 1
+-- the waiting time in as: the gap of the draw w times the mean waiting time, rounded down, and at least 1
 abbrev pub wait_of : ℤ → ℕ → ℕ
 wait_of lg w = max 1 (scaled_down (gap_of w * (mean_wait lg).0) ((mean_wait lg).1 -ℤ pos 60))
 
@@ -24,8 +25,8 @@ wait_of lg w = max 1 (scaled_down (gap_of w * (mean_wait lg).0) ((mean_wait lg).
 abbrev pub end_of_time : ℕ
 end_of_time = 10 ^ 30
 
--- when an instance fires that had its wait drawn by w at the time `now`: never, if it has no rate, if its
--- mean wait is 2^121 as or more, or if the end of time comes first
+-- when an instance fires whose waiting time was drawn by w at the time `now`: never, if it has no rate, if its
+-- mean waiting time is 2^121 as or more, or if the end of time comes first
 unfoldable pub time_of : Option ℤ → ℕ → ℕ → When
 time_of None w now = Never
 time_of (Some lg) w now =

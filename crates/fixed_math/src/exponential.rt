@@ -19,7 +19,8 @@ const COEFFICIENTS: [u64; 11] = [
     8,
 ];
 
-/// The power of two of `z`, which is in units of 2^-30: a pair (m, q) that stands for `m * 2^(q - 30)`.
+/// Two to the power of `z`, which is in units of 2^-30: a pair (m, q) that stands for `m * 2^(q - 30)`,
+/// where `m` is at least 2^30 and below 2^31.
 pub fn exp2(z: i64) -> (u64, i64)
     requires { unsigned_abs z ≤ 2 ^ 44 }
     ensures value { result ≡ exp2_of z }

@@ -8,7 +8,8 @@ const FRACTION_BITS: u32 = 30;
 /// The base-2 logarithm of ten, in units of 2^-30.
 pub(crate) const LOG2_OF_TEN: i64 = 3_566_893_132;
 
-/// The base-2 logarithm of `y` in units of 2^-30, its thirty fraction bits found by squaring.
+/// The base-2 logarithm of `y` in units of 2^-30, its thirty fraction bits found one by one by squaring
+/// (Knuth, The Art of Computer Programming, volume 1, 1.2.2).
 pub fn log2(y: u128) -> i64
     requires positive { 1 ≤ y }
     requires in_range { y ≤ 2 ^ 64 }
@@ -47,8 +48,8 @@ fn next_bit(mantissa: u64) -> u64
     if mantissa * mantissa >= 1 << 63 { 1 } else { 0 }
 }
 
-/// The base-2 logarithm of the decimal `digits * 10^power`, which is written with the fewest digits, in
-/// units of 2^-30; None where it is 0.
+/// The base-2 logarithm of the decimal `digits * 10^power`, in units of 2^-30; None where `digits` is 0.
+/// The digits have no zeros at their end.
 pub fn lg_decimal(digits: u64, power: i32) -> Option<i64>
     requires digits { digits < 10 ^ 18 }
     requires shortest { digits % 10 ≡ 0 → digits ≡ 0 }

@@ -13,13 +13,14 @@ const LN_2: u128 = 744_261_118;
 /// The base-2 logarithm of a second in as, 10^18, in units of 2^-30.
 const LOG2_OF_SECOND: i64 = 18 * LOG2_OF_TEN;
 
-/// The greatest exponent of a mean wait that still ends.
+/// The greatest exponent q of a mean waiting time that is counted as finite: below 2^121 as.
 const MAX_EXPONENT: i64 = 120;
 
-/// The end of time, in as.
+/// The end of time, in as: 10^30 as are 10^12 s.
 const END_OF_TIME: u128 = 1_000_000_000_000_000_000_000_000_000_000;
 
-/// The unit exponential variate of the draw `w`, in units of 2^-30.
+/// The exponential variate of mean 1 that a 64-bit draw `w` gives by inversion: `-ln((w + 1) / 2^64)`, in
+/// units of 2^-30.
 pub fn gap(w: u64) -> u64
     ensures value { result ≡ gap_of w }
     ensures range { result ≤ 47632711552 }
@@ -28,8 +29,11 @@ pub fn gap(w: u64) -> u64
     ((below as u128 * LN_2) >> 30) as u64
 }
 
-/// When an instance fires, in as, whose rate in 1/s has the base-2 logarithm `lg` in units of 2^-30 (None
-/// where it has no rate) and whose wait is drawn by `w` at the time `now`.
+/// The time at which an instance fires whose waiting time is drawn by `w` at the time `now`, both in as.
+///
+/// Its rate in 1/s has the base-2 logarithm `lg`, in units of 2^-30; None stands for no rate. The waiting time
+/// is at least 1 as. The instance never fires where it has no rate, where its mean waiting time is 2^121 as or
+/// more, or where its time would be past 10^30 as.
 pub fn wait(lg: Option<i64>, w: u64, now: u128) -> When
     requires rate { ForSome lg (λ l. unsigned_abs l ≤ 2 ^ 42) }
     requires time { now ≤ 10 ^ 30 }

@@ -1,5 +1,5 @@
 -- The cells of a periodic lattice and their sites, all counted from 0. There are nx cells in the first direction, east,
--- and ny in the second, north, and past the last cell of a direction comes its first again.
+-- and ny in the second, north, with periodic boundaries: past the last cell of a direction comes its first again.
 use Rattle.std.specs.Prelude.{ℕ, ◌+◌, ◌-◌, ◌*◌, ◌/◌, ◌%◌, ◌<◌}
 use Rattle.lattice_cell.specs.declared.cell.Join.{Join}
 use Rattle.lattice_cell.specs.declared.cell.Toward.{Toward}

@@ -1,4 +1,5 @@
--- The lattices that have a name (Zacros' default lattices): one site in each cell, of type 1.
+-- The default lattices (Zacros manual): one site in each cell, of type 1. That is a rule of kmc, also where the manual
+-- has another cell.
 use Rattle.std.specs.Prelude.{ℕ, List, [], ◌∷◌}
 use Rattle.lattice_core.specs.Lattice.{Lattice}
 use Rattle.lattice_cell.specs.declared.cell.Join.{Join}
@@ -12,7 +13,7 @@ use Rattle.lattice_cell.specs.Periodic.{periodic_lattice}
 abbrev pub joined_toward : Toward → Join
 joined_toward displacement = record { from = 0; to = 0; toward = displacement }
 
--- the joins: north and east, and in the hexagonal lattice northeast as well
+-- the joins: north and east (four neighbours), and in the hexagonal lattice northeast as well (six)
 abbrev pub default_joins : DefaultLattice → List Join
 default_joins Rectangular = joined_toward North ∷ joined_toward East ∷ []
 default_joins Hexagonal = joined_toward North ∷ joined_toward East ∷ joined_toward Northeast ∷ []

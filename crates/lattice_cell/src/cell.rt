@@ -1,7 +1,8 @@
 ghost use Rattle.std.specs.Prelude.{◌≡◌, ◌≤◌};
 ghost use Rattle.lattice_cell.specs.Cells.{steps_east, steps_north};
 
-/// Which cell the second site of a join is in, seen from the cell of its first.
+/// Which cell the second site of a join is in, seen from the cell of its first: the words of `neighboring_structure`
+/// (Zacros manual), where `Own` is `self`. The cells are periodic: past the last comes the first.
 #[derive(Clone, Copy, Debug, PartialEq, Eq, Hash)]
 pub enum Toward {
     /// The same cell.
@@ -27,7 +28,7 @@ impl Toward {
         }
     }
 
-    /// How many cells it leads in the second direction, where so many cells lie in it.
+    /// How many cells it leads in the second direction, where `ny` cells lie in it: one back is `ny - 1` on.
     pub(crate) fn steps_north(self, ny: u32) -> u32
         requires { 1 ≤ ny }
         ensures value { result ≡ steps_north ny self }
@@ -41,7 +42,7 @@ impl Toward {
     }
 }
 
-/// Joins a site of each cell to a site of a displaced cell. Sites of a cell are counted from 0.
+/// In each cell, makes a site of it and a site of a displaced cell neighbours. Sites of a cell are counted from 0.
 #[derive(Clone, Copy, Debug, PartialEq, Eq, Hash)]
 pub struct Join {
     /// The site of the cell.

@@ -13,12 +13,15 @@ use kmc_base::{MAX_SITES, SiteId};
 use lattice_core::{Graph, GraphFault};
 use std::alloc::Global;
 
-/// A lattice that has a name. Each of its cells has one site, of type 1.
+/// A default lattice, by its name in a deck. Each of its cells has one site, of type 1.
+///
+/// That there is one site in a cell is a rule of kmc, also where the Zacros manual has another cell.
 #[derive(Clone, Copy, Debug, PartialEq, Eq, Hash)]
 pub enum DefaultLattice {
-    /// Each site has the next one in either direction as neighbours.
+    /// `rectangular_periodic`: each site is joined to those of the cells north and east of it, and so has four
+    /// neighbours where there are at least three cells in each direction.
     Rectangular,
-    /// It also has the next one in both directions at once.
+    /// `hexagonal_periodic`: it is joined to that of the northeast cell too, and so has six.
     Hexagonal,
 }
 
@@ -40,8 +43,12 @@ const NORTHEAST: Join = Join {
     toward: Toward::Northeast,
 };
 
-/// The lattice of a cell that is repeated `nx` times in the first direction and `ny` times in the second, around the
-/// edges, or the first fault of the neighbours.
+/// The lattice of a cell that is repeated `nx` times in the first direction and `ny` times in the second, with periodic
+/// boundaries, or the first fault of the neighbours.
+///
+/// `types` has the type of each site of the cell. All is counted from 0: the cell at `a` in the first direction and `b`
+/// in the second has number `a * ny + b`, and its site `k` has number `cell * types.len() + k`. `OutOfMemory` says
+/// nothing of the neighbours.
 ///
 /// Its work grows with the number of cells times the number of joins.
 pub fn expand_periodic(
@@ -69,9 +76,10 @@ pub fn expand_periodic(
     Graph::new(site_types, lists)
 }
 
-/// A lattice that has a name, of `nx` times `ny` sites, or the first fault of the neighbours.
+/// A default lattice of `nx` times `ny` sites, or the first fault of the neighbours.
 ///
-/// A direction with one site makes each site its own neighbour.
+/// A direction with one site makes each site its own neighbour, which is a fault. `OutOfMemory` says nothing of the
+/// neighbours.
 pub fn expand_default(
     alloc: Global,
     kind: DefaultLattice,

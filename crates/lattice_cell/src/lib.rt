@@ -1,9 +1,11 @@
-//! The lattice of a cell that is repeated, of a kind that has a name, or of lists that are given.
+//! The lattice of a cell that is repeated, a default lattice, or the lattice of lists that are given: the three forms of
+//! a lattice in the Zacros manual.
 //!
-//! `expand_periodic` repeats a cell of sites around two directions and joins sites of each cell to sites of a displaced
-//! one. `expand_default` does so for the rectangular and the hexagonal lattice. `expand_explicit` takes the neighbours of
-//! each site. Each answers the lattice, or the first fault of its neighbours as `lattice_core` names it. `is_crowded` tells
-//! whether a repeated cell gives a site too many neighbours. The crate stands on `lattice_core` and `kmc_base`.
+//! `expand_periodic` repeats a cell of sites in two directions, with periodic boundaries, and joins sites of each cell to
+//! sites of a displaced one. `expand_default` does so for the rectangular and the hexagonal lattice. `expand_explicit`
+//! takes the neighbours of each site. Each answers the lattice, or the first fault of its neighbours as `lattice_core`
+//! names it. `is_crowded` tells whether a repeated cell gives a site too many neighbours. The crate stands on
+//! `lattice_core` and `kmc_base`.
 #![tactic(auto)]
 
 mod cell;

@@ -45,7 +45,7 @@ unfolding is_vacant
 not_vacant p d h is = false≢true (sym (ap is_vacant is))
 
 -- a site that is none of those listed keeps its state
-state_among-unlisted : (species home d : ℕ) (sites : List ℕ) (s : ℕ) (old : State) → is_listed sites s ≡ false → state_among species home d sites s old ≡ old
+pub state_among-unlisted : (species home d : ℕ) (sites : List ℕ) (s : ℕ) (old : State) → is_listed sites s ≡ false → state_among species home d sites s old ≡ old
 state_among-unlisted species home d [] s old h = refl
 state_among-unlisted species home d (t ∷ sites) s old h =
     let parts = or_parts (eqb t s) (is_listed sites s) h in
@@ -166,15 +166,16 @@ module _ (states : List State) (sites : List ℕ) (whole : IsWholeAdsorbate stat
 -- ---- an adsorbate put on
 
 -- what has a home holds a dentate
-held_from_home : (x : State) (h : ℕ) → has_home x h ≡ true → (p d : ℕ) × (x ≡ held p d h)
+pub held_from_home : (x : State) (h : ℕ) → has_home x h ≡ true → (p d : ℕ) × (x ≡ held p d h)
 held_from_home Vacant h is = absurd (false≢true is)
 held_from_home (Holds species dentate home) h is = (species.0, dentate, ap (held species.0 dentate) (eqb-true home.0 h is))
 
-later_different : (t : ℕ) (sites : List ℕ) → AllPairs (λ s u. s ≢ u) (t ∷ sites) → AllPairs (λ s u. s ≢ u) sites
+-- of different sites those after the first are different
+pub later_different : (t : ℕ) (sites : List ℕ) → AllPairs (λ s u. s ≢ u) (t ∷ sites) → AllPairs (λ s u. s ≢ u) sites
 later_different t sites different i j d low within = different (suc i) (suc j) d (omega arith) (omega arith)
 
 -- the dentate of each of the sites is its place
-among_at : (species home d : ℕ) (sites : List ℕ) (i : ℕ) (old : State) → AllPairs (λ s t. s ≢ t) sites → i < length sites → state_among species home d sites (get_or sites i 0) old ≡ held species (d + i) home
+pub among_at : (species home d : ℕ) (sites : List ℕ) (i : ℕ) (old : State) → AllPairs (λ s t. s ≢ t) sites → i < length sites → state_among species home d sites (get_or sites i 0) old ≡ held species (d + i) home
 among_at species home d [] i old different within = absurd (omega arith)
 among_at species home d (t ∷ sites) zero old different within =
     cond-true _ _ _ (eq-eqb t t refl) ∙ ap (λ n. held species n home) (omega arith)

@@ -1,11 +1,12 @@
--- Configurations (Nielsen et al. 2013): which dentate of which adsorbate stands on each site of the lattice.
+-- Configurations (Stamatakis and Vlachos 2011): which dentate of which adsorbate stands on each site of the lattice.
+-- An adsorbate is named by its home, the site of its dentate 1.
 use Rattle.std.specs.Prelude.{ℕ, ◌≡◌, ◌≤◌, ◌+◌, ◌*◌, ◌==◌, Bool, false, List, [], ◌∷◌, length, map, slice_index, slice_index_or, if◌then◌else◌}
 use Rattle.std.specs.List.{range_with_len}
 use Rattle.lattice_core.specs.declared.state.State.{State}
 use Rattle.lattice_core.specs.declared.state.State.TheVariants.{Vacant, Holds}
 use Rattle.lattice_core.specs.SiteList.{is_listed}
 
--- the state of a site
+-- the state of a site, vacant past the last
 abbrev pub state_at : List State → ℕ → State
 state_at states s = slice_index_or states s Vacant
 
@@ -45,7 +46,7 @@ pub record IsWholeAdsorbate (states : List State) (sites : List ℕ) : Type 0 wh
   pub has_a_site : 1 ≤ length sites
   pub all_sites : (s : ℕ) → is_listed sites s ≡ has_home (state_at states s) home
 
--- the sites of one home hold one adsorbate: of one species, each of its dentates once, dentate 1 on the home
+-- the sites of one home hold one adsorbate: of one species, with each of its dentates once, and dentate 1 on the home
 pub record IsAdsorbate (dentates : ℕ → ℕ) (states : List State) (species home : ℕ) : Type 0 where
   pub one_species : (s p d : ℕ) → state_at states s ≡ held p d home → (p ≡ species) × (1 ≤ d) × (d ≤ dentates species)
   pub each_once : (d : ℕ) → 1 ≤ d → d ≤ dentates species → (s : ℕ) × (state_at states s ≡ held species d home) × ((t : ℕ) → state_at states t ≡ held species d home → t ≡ s)

@@ -19,7 +19,7 @@ site_count lattice = length lattice.types
 abbrev pub all_sites : Lattice → List ℕ
 all_sites lattice = range_with_len 0 (site_count lattice)
 
--- the neighbours of a site
+-- the neighbours of a site, of which there are none past the last site
 abbrev pub neighbours_of : Lattice → ℕ → List ℕ
 neighbours_of lattice s = slice_index_or lattice.neighbours s []
 

@@ -15,7 +15,7 @@ pub record Seen : Type 0 where
 abbrev pub InWindow : Seen → ℕ → Type 0
 InWindow window s = is_listed window.sites s ≡ true
 
--- the state beside that site
+-- the state that the window has for a site
 abbrev pub state_in_window : Seen → ℕ → State
 state_in_window window s = slice_index_or window.states (position_or_len (λ t. t == s) window.sites) Vacant
 

@@ -32,7 +32,7 @@ pub record AreMerged (before after : List (List ℕ)) : Type 0 where
   pub rising : (s : ℕ) → IsStrictlyIncreasing (list_of after s)
   pub same_sites : (s t : ℕ) → is_listed (list_of after s) t ≡ is_listed (list_of before s) t
 
--- the first list with one more site
+-- the second list names what the first does, and what is added
 abbrev pub Adds : List ℕ → List ℕ → (ℕ → Bool) → Type 0
 Adds before after added = (s : ℕ) → is_listed after s ≡ (is_listed before s || added s)
 

@@ -1,4 +1,4 @@
-ghost use Rattle.std.specs.Prelude.{◌≡◌, ◌==◌, ◌||◌, ◌↔◌, ◌<◌, ℕ, All, Contains, OnOk, IfOk, length, drop, vec_len, false, slice_index_or, []};
+ghost use Rattle.std.specs.Prelude.{◌≡◌, ◌==◌, ◌↔◌, ◌<◌, ℕ, All, Contains, OnOk, IfOk, length, drop, vec_len, false, slice_index_or, []};
 ghost use Rattle.std.specs.List.{list_any};
 ghost use Rattle.lattice_core.specs.Ball.{ball, is_reached, IsNear};
 ghost use Rattle.lattice_core.specs.Lattice.{site_count, neighbours_of, IsLattice};
@@ -97,9 +97,10 @@ impl Visited {
 }
 
 impl Graph {
-    /// The sites within a distance of the centres, in rising order, each once.
+    /// The sites within a distance of the centres, in rising order, each once; the centres are among them.
     ///
-    /// Its work grows with the number of sites and the neighbours of the sites that it answers.
+    /// The distance of two sites is the least number of steps between them, each from a site to a neighbour. The work
+    /// grows with the number of sites and the neighbours of the sites that are found.
     pub fn ball(
         &self,
         alloc: Global,

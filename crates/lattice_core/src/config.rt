@@ -9,10 +9,10 @@ use std::alloc::Global;
 use std::marker::Model;
 use std::sync::ledger::Ledger;
 
-/// The greatest number of dentates of an adsorbate.
+/// The greatest number of dentates of an adsorbate. Each dentate is bound to a site of its own.
 pub const MAX_DENTATES: usize = 8;
 
-/// A configuration: the state of each site.
+/// A configuration: the state of each site. A contract sees it as the list of the states.
 ///
 /// Beside each state it keeps the class of the state, a number by which many sites are searched at once.
 #[derive(Debug, Drop)]
@@ -44,7 +44,7 @@ impl Config {
         Ok(Config { states, classes })
     }
 
-    /// The same states again.
+    /// A copy, of the same states. It counts no read.
     pub fn copy(&self, alloc: Global) -> Result<Config, OutOfMemory>
         ensures { IfOk result (λ c. c ≡ self.now) }
     {
@@ -81,7 +81,8 @@ impl Config {
         self.classes[site.0 as usize] = class_of(state);
     }
 
-    /// Puts an adsorbate on vacant sites: its dentate 1 on the first, dentate 2 on the second, and so on.
+    /// Puts an adsorbate on vacant sites: its dentate 1 on the first, which is its home, dentate 2 on the second, and so
+    /// on.
     pub fn set(&mut self, species: SpeciesId, sites: &[SiteId])
         requires has_a_site { 1 ≤ length sites.now }
         requires within_limit { length sites.now ≤ MAX_DENTATES }
@@ -109,7 +110,7 @@ impl Config {
         }
     }
 
-    /// Takes an adsorbate off all its sites.
+    /// Takes an adsorbate off its sites, which are all given.
     pub fn clear(&mut self, sites: &[SiteId])
         requires { IsWholeAdsorbate self.old (site_numbers sites.now) }
         ensures count { length self.new ≡ length self.old }

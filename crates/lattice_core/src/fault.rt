@@ -6,6 +6,8 @@ use std::error::Error;
 use std::fmt;
 
 /// Why lists of neighbours make no lattice. Each number is that of a site, from 0.
+///
+/// The first fault is that of the least site that has one, and at one site the first in this order.
 #[derive(Clone, Copy, Debug, PartialEq, Eq, Hash)]
 pub enum GraphFault {
     /// This site lists a number that is no site.
@@ -14,7 +16,7 @@ pub enum GraphFault {
     SelfNeighbour(u32),
     /// This site has more than `MAX_NEIGHBOURS` neighbours.
     TooMany(u32),
-    /// The first site lists the second, which does not list it.
+    /// The first site lists the second, which does not list it; of several such it is the least.
     OneSided(u32, u32),
     /// There was no memory. It says nothing of the lists.
     OutOfMemory,

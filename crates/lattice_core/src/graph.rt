@@ -1,4 +1,4 @@
-ghost use Rattle.std.specs.Prelude.{◌≡◌, ℕ, ◌<◌, ◌≤◌, None, Some, IfOk, IfErr, IfSome, length, vec_len, is_some, slice_index};
+ghost use Rattle.std.specs.Prelude.{◌≡◌, ◌<◌, ◌≤◌, None, Some, IfOk, IfErr, IfSome, length, vec_len, is_some, slice_index};
 ghost use Rattle.std.specs.Option.{option_map};
 ghost use Rattle.std.specs.List.Sorted.{IsStrictlyIncreasing};
 ghost use Rattle.lattice_core.specs.Fault.{first_fault, lattice_from};
@@ -46,7 +46,7 @@ fn sort_lists(lists: &mut [Vec<SiteId>])
 impl Graph {
     /// The lattice of these types and neighbours, one of each for each site, or its first fault.
     ///
-    /// A neighbour that is listed twice counts once. It takes no memory.
+    /// A neighbour that is listed twice counts once. It takes no memory, and never answers `OutOfMemory`.
     pub fn new(types: Vec<u16>, mut neighbours: Vec<Vec<SiteId>>) -> Result<Graph, GraphFault>
         requires same_length { vec_len types ≡ vec_len neighbours }
         requires has_a_site { 1 ≤ vec_len types }
@@ -62,7 +62,7 @@ impl Graph {
         }
     }
 
-    /// How many sites it has.
+    /// How many sites it has, from 1 to `MAX_SITES`.
     pub fn len(&self) -> u32
         ensures count { result ≡ site_count self.now }
         ensures lattice { IsLattice self.now }
@@ -80,7 +80,7 @@ impl Graph {
         list_at(&self.neighbours, s)
     }
 
-    /// The type of a site.
+    /// The type of a site, as it was given to `new`.
     pub fn site_type(&self, s: SiteId) -> u16
         requires { s.0 < site_count self.now }
         ensures { result ≡ slice_index self.now.types s.0 }
@@ -88,7 +88,8 @@ impl Graph {
         self.types[s.0 as usize]
     }
 
-    /// The place of a neighbour among the neighbours of a site, from 0, or None where it is no neighbour.
+    /// The slot of site `t` among the neighbours of site `s`: its place, from 0, in their rising order. None where it is
+    /// no neighbour.
     pub fn slot_of(&self, s: SiteId, t: SiteId) -> Option<u8>
         requires site { s.0 < site_count self.now }
         ensures value { result ≡ slot_in self.now s.0 t.0 }
@@ -99,7 +100,7 @@ impl Graph {
         Some(place as u8)
     }
 
-    /// The neighbour at a place of a site, or None where there is no such place.
+    /// The neighbour in a slot of a site, or None where the site has no more than `slot` neighbours.
     pub fn at_slot(&self, s: SiteId, slot: u8) -> Option<SiteId>
         requires site { s.0 < site_count self.now }
         ensures value { option_map (λ t. t.0) result ≡ site_in_slot self.now s.0 slot }

@@ -10,15 +10,16 @@ pub enum State {
     Vacant,
     /// A dentate of an adsorbate stands there.
     Holds {
+        /// The species of the adsorbate.
         species: SpeciesId,
         /// Which dentate of it, from 1.
         dentate: u8,
-        /// The site of its dentate 1.
+        /// The site of its dentate 1. Two sites of one home hold the same adsorbate.
         home: SiteId,
     },
 }
 
-/// The class of a state.
+/// The class of a state: 0 where it is vacant, else 8 times the species plus the dentate.
 pub(crate) fn class_of(state: State) -> u32
     ensures { result ≡ class_of state }
 {

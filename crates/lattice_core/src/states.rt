@@ -23,7 +23,7 @@ pub trait States {
         ensures { result ≡ shown self.now s.0 };
 }
 
-/// A vacant lattice but for a few sites. It covers every site.
+/// A lattice that is vacant but for at most `MAX_DENTATES` sites. It covers every site.
 #[derive(Debug, Drop)]
 pub struct Bare {
     given: Given,
@@ -62,7 +62,8 @@ impl States for Bare {
     }
 }
 
-/// The states of a base but for a few sites.
+/// The states of a base but for at most `MAX_DENTATES` sites, where others are given. It covers these and what the base
+/// covers.
 #[derive(Drop)]
 pub struct Overlay<'a, W> {
     base: &'a W,

@@ -1,9 +1,10 @@
-ghost use Rattle.std.specs.Prelude.{◌≡◌, ◌+◌, ◌<◌, ◌≤◌, ℕ};
+ghost use Rattle.std.specs.Prelude.{◌≡◌, ◌+◌, ◌<◌, ℕ};
 
 use std::marker::Model;
 use std::sync::ledger::{Blank, Book, Ledger, Share};
 
-/// How many states of sites were read. It takes no bytes, and no one else has its ledger.
+/// A counter of how many states of sites were read, which contracts bound. It takes no bytes when the program runs, and
+/// no other counter has its ledger.
 #[derive(Drop)]
 pub struct Steps<L: Ledger> {
     book: Book<L>,

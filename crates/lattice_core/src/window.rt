@@ -58,7 +58,7 @@ fn read_states<L: Ledger>(
 }
 
 impl Window {
-    /// It covers no site yet.
+    /// A window that covers no site yet.
     pub fn new(alloc: Global) -> Window
         ensures { result.sites ≡ [] }
     {

@@ -33,8 +33,9 @@ impl Draws {
         }
     }
 
-    /// The draw named by event `n` and `code`: words `2 * code` (its low half) and `2 * code + 1`
-    /// of stream `n`. Codes are below 2^65.
+    /// The draw named by event `n` and the code of an instance, which is below 2^65: words `2 * code` (its
+    /// low half) and `2 * code + 1` (its high half) of stream `n` of ChaCha with eight rounds (RFC 8439, with
+    /// a 64-bit block counter and a 64-bit stream number in place of the nonce).
     pub fn draw(&mut self, n: u64, code: u128) -> u64
         requires { code < 2 ^ 65 }
         ensures value { result ≡ draw self.old n code }
@@ -48,7 +49,7 @@ impl Draws {
     }
 }
 
-// The eight bytes of a random seed, low byte first, four times.
+/// The eight bytes of a random seed, low byte first, four times.
 fn key_bytes(seed: u64) -> [u8; 32]
     ensures { result ≡ key_bytes_lem seed }
 {

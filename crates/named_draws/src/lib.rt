@@ -1,6 +1,7 @@
 //! The random numbers of a simulation, each asked for by its name: an event number and the code of
-//! an instance of a process. A draw is two words of ChaCha8 at the place that the name gives, so it
-//! depends on the random seed and the name alone, in whatever order the names are asked for.
+//! an instance of a process. A draw is two words of ChaCha8 (RFC 8439 with eight rounds) at the place
+//! that the name gives, so it depends on the random seed and the name alone, in whatever order the names
+//! are asked for.
 //!
 //! It stands on `rand_chacha`, the cipher as seeded streams with places, and on `rand_core`, the
 //! interface by which a generator is seeded and its words are read.

@@ -4,18 +4,22 @@ ghost use Rattle.pattern_types.specs.Wants.{same_dentate, different_species, som
 
 use kmc_base::SpeciesId;
 
-/// The state of a site that a vertex of a pattern wants.
+/// The state of a site that a vertex of a pattern wants (the rows of `lattice_state`, `initial` and
+/// `final` in the Zacros manual).
 #[derive(Clone, Copy, Debug, PartialEq, Eq, Hash)]
 pub enum Wanted {
-    /// Whatever the state is.
+    /// Any state. It is written `& & &`, and no side of an elementary step has it.
     Any,
     /// A vacant site.
     Vacant,
     /// A site that holds a dentate of an adsorbate. Vertices that name one entity want one adsorbate,
     /// and vertices that name different entities want different ones.
     Holds {
+        /// The name of the adsorbate within the pattern.
         entity: u8,
+        /// The species of the adsorbate.
         species: SpeciesId,
+        /// Which dentate of it, from 1.
         dentate: u8,
     },
 }

@@ -25,7 +25,7 @@ digits_and_power (digits ∷ []) = number_of digits >>= λ n. Some (n, 0)
 digits_and_power (digits ∷ power ∷ []) = number_of digits >>= λ n. power_of power >>= λ e. Some (n, e)
 digits_and_power (digits ∷ power ∷ next ∷ others) = None
 
--- a pre-exponential factor, shortened, whose power of ten is then at most 400
+-- a pre-exponential factor in 1/s, shortened, whose power of ten is then at most 400
 unfoldable pub factor_of : Word → Option (ℕ × ℕ)
 factor_of word = digits_and_power (pieces 101 word) >>= λ n.
     found_if (nat_le (shortened 18 n.0 n.1).1 400) (shortened 18 n.0 n.1)
@@ -36,7 +36,7 @@ state_named book word =
     if same_word word (codes "*") then Some None
     else (place_of book.surface word >>= λ place. found_if (nat_le (slice_index book.dentates place) 1) (Some (species place)))
 
--- a state row `1 Q 1`
+-- a state row `1 Q 1`: entity 1, the species Q, dentate 1
 unfoldable pub state_row : Book → Line → Option (Option SpeciesId)
 state_row book (entity ∷ name ∷ dentate ∷ []) =
     if same_word entity (codes "1") && same_word dentate (codes "1") then state_named book name else None

@@ -5,10 +5,11 @@ use Rattle.std.specs.Cmp.Lexicographic.{pointwise}
 use Rattle.std.specs.Int.Digits.{number_from_digits}
 use Rattle.std.specs.List.{list_all}
 
--- a word, a line as its words, and the lines of a text
+-- a word, by its bytes
 abbrev pub Word : Type 0
 Word = List ℕ
 
+-- a line, by its words
 abbrev pub Line : Type 0
 Line = List Word
 
@@ -58,23 +59,25 @@ after_words [] line = Some line
 after_words (word ∷ words) [] = None
 after_words (word ∷ words) (first ∷ line) = if same_word first word then after_words words line else None
 
--- the only word, and the only two words
+-- the only word of a line
 unfoldable pub one_word : List Word → Option Word
 one_word (word ∷ []) = Some word
 one_word [] = None
 one_word (word ∷ next ∷ others) = None
 
+-- the only two words of a line
 unfoldable pub two_words : List Word → Option (Word × Word)
 two_words (first ∷ second ∷ []) = Some (first, second)
 two_words [] = None
 two_words (first ∷ []) = None
 two_words (first ∷ second ∷ third ∷ others) = None
 
--- the words after these words, one at least
+-- some words, one at least
 abbrev pub some_words : List Word → Option (List Word)
 some_words [] = None
 some_words (word ∷ words) = Some (word ∷ words)
 
+-- a line that begins with these words and has more: the words after them
 unfoldable pub words_behind : List Word → Line → Option (List Word)
 words_behind words line = after_words words line >>= some_words
 

@@ -5,7 +5,7 @@ ghost use Rattle.plain_files.specs.Energetics.{is_plain_energetics};
 
 use crate::text::{nothing_more, words_only};
 
-/// The text is the opening and the closing word of an energetics file.
+/// The text is an energetics file without clusters: its opening and its closing word.
 #[tactic(auto, unfolding(crate::specs::Energetics::is_plain_energetics))]
 pub fn is_energetics(text: &[u8]) -> bool
     ensures { result ≡ is_plain_energetics text.now }

@@ -1,5 +1,5 @@
-//! The energetics file and the mechanism file in their plain form, the only one that is built: each line has its words one
-//! space apart and ends with LF, and there is nothing else.
+//! The energetics file and the mechanism file in their plain form, the only one that kmc takes so far: each line has its
+//! words one space apart and ends with LF, and there is nothing else.
 //!
 //! `is_energetics` says whether an energetics file is its opening and its closing word. `read_mechanism` gives exactly the
 //! steps of a mechanism file, each on one site and over the species of a book, or says that the text is not of the plain

@@ -269,7 +269,8 @@ fn steps_from<'a>(
     Ok(closed(steps, rest))
 }
 
-/// The steps of a mechanism file over the surface species of a book, or `None` where the text is not of the plain form.
+/// The steps of a mechanism file over the surface species of a book: 1 to 16, with different names. `None` where the text
+/// is not of the plain form.
 #[tactic(auto, unfolding(crate::specs::Mechanism::steps_of))]
 pub fn read_mechanism<'a>(
     alloc: Global,

@@ -4,8 +4,8 @@ use Rattle.std.specs.Str.{bytes_eq}
 use Rattle.std.specs.Global.{Vec}
 use Rattle.kmc_base.specs.declared.ids.SpeciesId.{SpeciesId}
 
--- the species of a deck: the names of gas species and of surface species, and how many dentates each of
--- the latter has
+-- the species of a deck: the names of gas species and of surface species, and how many dentates (sites that one
+-- adsorbate occupies) each of the latter has
 pub record Book : Type 0 where
   pub gas : List (List ℕ)
   pub surface : List (List ℕ)

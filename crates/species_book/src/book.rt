@@ -24,7 +24,8 @@ impl Model for SpeciesBook {
 }
 
 impl SpeciesBook {
-    /// A book of these names; `dentates` has the number of each surface species.
+    /// A book of these names, each in the order of the deck; `dentates` has how many dentates each surface
+    /// species has. A name stands once in its list, and no list has more than 64.
     pub fn new(gas: Vec<Vec<u8>>, surface: Vec<Vec<u8>>, dentates: Vec<u8>) -> SpeciesBook
         requires gas_differ { IsTrue (are_distinct (names_of gas.items)) }
         requires surface_differ { IsTrue (are_distinct (names_of surface.items)) }
@@ -68,7 +69,7 @@ impl SpeciesBook {
         self.dentates[id.0 as usize]
     }
 
-    /// The names of the gas species, in order.
+    /// The names of the gas species, in the order of their places.
     pub fn gas_names(&self) -> &[Vec<u8>]
         ensures names { names_of result.now ≡ self.now.gas }
         ensures few { length result.now ≤ 64 }
