@@ -1,8 +1,10 @@
 mod Below
 mod FirstKinds
+pub mod FormTables
 mod Least
 mod LineCounts
-mod Maps
+pub mod Maps
+pub mod NameLists
 mod Powers
 mod Repeats
 mod Rows

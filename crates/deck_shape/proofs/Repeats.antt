@@ -58,9 +58,6 @@ any_further p (x ∷ xs) more is = elim (or_cases (p x) (list_any p xs) is) [ in
 abbrev pub HasSeen : List (List ℕ) → BTreeSet (Bor (List ℕ)) → Type 0
 HasSeen words seen = (q : Bor (List ℕ)) → contains word_cmp seen q ≡ list_any (λ word. same_word word q.now) words
 
-pub seen_none : (seen : BTreeSet (Bor (List ℕ))) → seen.keys ≡ [] → HasSeen [] seen
-seen_none seen none q = ap (list_any (is_at (word_cmp q))) none
-
 pub seen_more : (words : List (List ℕ)) (word : Bor (List ℕ)) (old new : BTreeSet (Bor (List ℕ)))
     → ((q : Bor (List ℕ)) → contains word_cmp new q ≡ cond (is_at (word_cmp word) q) true (contains word_cmp old q)) → HasSeen words old → HasSeen (words ++ word.now ∷ []) new
 seen_more words word old new updates seen q =

@@ -28,10 +28,11 @@ pub record BlockLines : Type 0 where
   pub name : Run
   pub items : List ItemLines
 
--- what the places in a text stand for
+-- the word line and its rows that an item stands for in its text
 abbrev pub item_at : List ℕ → Item → ItemLines
 item_at text item = record { line = line_at text item.line; rows = map (line_at text) item.rows }
 
+-- the block of lines that a block stands for in its text
 abbrev pub block_at : List ℕ → Block → BlockLines
 block_at text block = record {
   kind = block.kind;

@@ -1,8 +1,9 @@
--- How the keywords of the input files are spelled (those of Zacros).
+-- The keywords of the input files.
 use Rattle.std.specs.Prelude.{ℕ, List, codes}
 use Rattle.deck_shape.specs.declared.keyword.Keyword.{Keyword}
 use Rattle.deck_shape.specs.declared.keyword.Keyword.TheVariants.{RandomSeed, Temperature, Pressure, NGasSpecies, GasSpecsNames, GasEnergies, GasMolecWeights, GasMolarFracs, NSurfSpecies, SurfSpecsNames, SurfSpecsDent, Snapshots, ProcessStatistics, SpeciesNumbers, EventReport, MaxSteps, MaxTime, WallTime, NoRestart, OverrideArrayBounds, Finish, Lattice, RectangularPeriodic, HexagonalPeriodic, TriangularPeriodic, CellVectors, RepeatCell, NCellSites, NSiteTypes, SiteTypeNames, SiteTypes, SiteCoordinates, NeighboringStructure, EndNeighboringStructure, NSites, MaxCoord, LatticeStructure, EndLatticeStructure, EndLattice}
 
+-- how each is spelled (Zacros manual); case counts
 abbrev pub spelling : Keyword → List ℕ
 spelling RandomSeed = codes "random_seed"
 spelling Temperature = codes "temperature"

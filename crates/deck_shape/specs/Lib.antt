@@ -3,10 +3,13 @@ pub mod Tables
 pub mod LineWords
 pub mod Blocks
 pub mod Lists
+pub mod Forms
 pub mod Names
+pub mod Items
 pub mod Numbers
 pub mod Reading
 pub mod LineFaults
 pub mod Shapes
 pub mod Views
 pub mod WholeBlocks
+pub mod FirstFault

@@ -1,4 +1,4 @@
--- The faults of form: which kinds hold at a line, by what is read by the lines above it.
+-- The faults of form: which kinds hold at a line, by what has been read above it.
 use Rattle.std.specs.Prelude.{ℕ, ◌&&◌, ◌+◌, Bool, true, false, not, List, [], ◌∷◌, ◌++◌, length, Option, None, Some, Result, Ok, Err, if◌then◌else◌, is_none, is_some, unwrap_or}
 use Rattle.std.specs.List.{list_any}
 use Rattle.std.specs.Option.{option_map_or}
@@ -30,7 +30,7 @@ is_required Optional = false
 is_required Required = true
 is_required (ThisOr other) = true
 
--- what a role is
+-- a word's role is to close a block
 abbrev pub closes : Role → Bool
 closes Value = false
 closes HasRows = false
@@ -39,6 +39,7 @@ closes BeginsLattice = false
 closes Closes = true
 closes Unsupported = false
 
+-- a word's role is to open the block of a lattice file
 abbrev pub begins_lattice : Role → Bool
 begins_lattice Value = false
 begins_lattice HasRows = false
@@ -47,6 +48,7 @@ begins_lattice BeginsLattice = true
 begins_lattice Closes = false
 begins_lattice Unsupported = false
 
+-- a word is refused as one that kmc does not support
 abbrev pub is_unsupported : Role → Bool
 is_unsupported Value = false
 is_unsupported HasRows = false
@@ -63,7 +65,7 @@ is_stray_row so_far line = is_row line && not (takes_rows so_far.below)
 abbrev pub is_unknown : SoFar → WordLine → Bool
 is_unknown so_far line = not (is_row line) && is_none (rule_at so_far line)
 
--- a word takes another number of arguments
+-- a word has another number of arguments than it takes
 abbrev pub has_other_count : WordLine → Rule → Bool
 has_other_count line rule = not (allows rule.arguments (length (arguments_of line)))
 
@@ -109,12 +111,13 @@ line_faults so_far line =
 abbrev pub fault_at : SoFar → WordLine → Option ℕ
 fault_at so_far line = first_kind (line_faults so_far line)
 
--- a line closes the file: the closing word of the file's block, where no rows are enclosed
+-- the next line does not stand in an enclosed block of rows
 abbrev pub is_outermost : Below → Bool
 is_outermost Words = true
 is_outermost Rows = true
 is_outermost (Enclosed rows) = false
 
+-- a line closes the file: it has the closing word of the file's block, outside enclosed rows
 abbrev pub closes_file : SoFar → WordLine → Bool
 closes_file so_far line = is_outermost so_far.below && option_map_or (λ rule. closes rule.role) (rule_at so_far line) false
 

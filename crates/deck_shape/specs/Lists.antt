@@ -3,7 +3,7 @@ use Rattle.std.specs.Prelude.{ℕ, ◌==◌, ◌||◌, Bool, false, not, List, [
 use Rattle.std.specs.List.{list_any}
 use Rattle.deck_shape.specs.Tables.{same_word}
 
--- a fault, where it holds
+-- this kind of fault, where it holds
 abbrev pub fault_if : Bool → ℕ → Option ℕ
 fault_if holds kind = if holds then Some kind else None
 

@@ -2,6 +2,7 @@
 use Rattle.std.specs.Prelude.{ℕ, List}
 use Rattle.dec_text.specs.Lines.{Run}
 use Rattle.dec_text.specs.Spans.{run_at}
+use Rattle.dec_text.specs.declared.lines.Span.{Span}
 use Rattle.deck_shape.specs.declared.name.Name.{Name}
 
 -- a word, and the number of its line
@@ -9,6 +10,14 @@ pub record NameWord : Type 0 where
   pub word : Run
   pub line : ℕ
 
+-- a word of a line, as a name
+abbrev pub on_line : ℕ → Run → NameWord
+on_line line word = record { word = word; line = line }
+
+-- the same by its place in a text
+abbrev pub name_of : ℕ → Span → Name
+name_of line span = record { span = span; line = line }
+
 -- what a name in a text stands for
 abbrev pub name_at : List ℕ → Name → NameWord
-name_at text name = record { word = run_at text name.span; line = name.line }
+name_at text name = on_line name.line (run_at text name.span)

@@ -41,7 +41,7 @@ decimal_kind passes (Err Form) = Some NOT_NUMBER
 decimal_kind passes (Err Power) = Some OUT_OF_RANGE
 decimal_kind passes (Ok n) = if passes n then None else Some OUT_OF_RANGE
 
--- a result that is there
+-- a scaled decimal is within its bounds
 abbrev pub is_scaled : Result ℤ OutOfRange → Bool
 is_scaled (Ok value) = true
 is_scaled (Err e) = false
@@ -60,7 +60,8 @@ number_kind (Scaled places least most) word = decimal_kind (passes (Scaled place
 number_kind (UpTo power) word = decimal_kind (passes (UpTo power)) (decimal_of word)
 number_kind Unused word = decimal_kind (passes Unused) (decimal_of word)
 
--- the units and the bounds are such as a decimal can be compared in
+-- the units and the bounds are ones that a decimal can be compared in: at most 27 places and bounds within 10^36,
+-- or a power of ten of at most 18
 abbrev pub IsNumber : Number → Type 0
 IsNumber (Whole least most) = Unit {0}
 IsNumber (Scaled places least most) = (places ≤ 27) × (neg_ℤ (pos (10 ^ 36)) ≤ℤ least) × (most ≤ℤ pos (10 ^ 36))
@@ -72,22 +73,26 @@ abbrev pub numbers_kind : Number → List (List ℕ) → Option ℕ
 numbers_kind number [] = None
 numbers_kind number (word ∷ words) = lesser (number_kind number word) (numbers_kind number words)
 
--- What a word stands for where it has no fault; where it has one, the number that is given in its place.
+-- the whole number that a word stands for, or the other one where the word has a fault
 abbrev pub whole_value : ℕ → ℕ → ℕ → Result ℕ NotWhole → ℕ
 whole_value least most other (Err e) = other
 whole_value least most other (Ok n) = if is_whole_within least most n then n else other
 
+-- a scaled decimal, or the other number where it is out of its bounds
 abbrev pub scaled_or : ℤ → Result ℤ OutOfRange → ℤ
 scaled_or other (Ok value) = value
 scaled_or other (Err e) = other
 
+-- the decimal that a word stands for, in units of 10^-places, or the other number where the word has a fault
 abbrev pub decimal_value : ℕ → ℤ → ℤ → ℤ → Result Scientific DecimalFault → ℤ
 decimal_value places least most other (Err e) = other
 decimal_value places least most other (Ok n) = scaled_or other (scaled_within n places least most)
 
+-- the decimal 0
 abbrev pub zero : Scientific
 zero = record { negative = false; digits = 0; power = pos 0 }
 
+-- the decimal from 0 to ten to a power that a word stands for, or 0 where the word has a fault
 abbrev pub up_to_value : ℕ → Result Scientific DecimalFault → Scientific
 up_to_value power (Err e) = zero
 up_to_value power (Ok n) = if is_up_to power n then n else zero

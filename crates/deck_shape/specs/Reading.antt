@@ -1,4 +1,4 @@
--- What is read by some lines of a file: its block as far as it is read, and what may stand on the next line.
+-- Reading a file line by line.
 use Rattle.std.specs.Prelude.{ℕ, List, [], ◌∷◌, ◌++◌, Option, None, Some, codes, if◌then◌else◌, unwrap_or}
 use Rattle.std.specs.Option.{option_map_or}
 use Rattle.dec_text.specs.Lines.{WordLine, run}
@@ -15,6 +15,7 @@ use Rattle.deck_shape.specs.declared.table.Role.{Role}
 use Rattle.deck_shape.specs.declared.table.Role.TheVariants.{Value, Rows as HasRows, Encloses, BeginsLattice, Closes, Unsupported}
 use Rattle.deck_shape.specs.declared.table.Rule.{Rule}
 
+-- what has been read of a file after some of its lines: its block so far, and what may stand on the next line
 pub record SoFar : Type 0 where
   pub block : BlockLines
   pub below : Below
@@ -27,7 +28,7 @@ first_block Energetics = None
 first_block Mechanism = None
 first_block State = None
 
--- nothing is read yet
+-- nothing has been read yet
 abbrev pub nothing_read : BlockKind → SoFar
 nothing_read kind = record {
   block = record { kind = kind; word = run 0 []; line = 0; end_line = 0; name = run 0 []; items = [] };
@@ -80,7 +81,8 @@ with_item line below so_far = record {
   below = below;
 }
 
--- what a word line without faults makes of it, by the role of its word; the line that closes the file is not among them
+-- what has been read after one more word line without faults, by the role of its word; the line that closes the file
+-- is not among them
 abbrev pub after_word : WordLine → SoFar → Role → SoFar
 after_word line so_far Value = with_item line Words so_far
 after_word line so_far HasRows = with_item line Rows so_far
@@ -93,14 +95,14 @@ after_word line so_far Unsupported = so_far
 abbrev pub after_row : WordLine → SoFar → SoFar
 after_row row so_far = record so_far { block = record so_far.block { items = with_row row so_far.block.items } }
 
--- what is read by a line without faults
+-- what has been read after one more line without faults
 abbrev pub after_line : WordLine → SoFar → SoFar
 after_line line so_far =
     if is_row line
     then after_row line so_far
     else option_map_or (λ rule. after_word line so_far rule.role) (rule_at so_far line) so_far
 
--- what is read by some lines, the first of them first
+-- what has been read after these lines more, the first of them first
 abbrev pub read_after : SoFar → List WordLine → SoFar
 read_after so_far [] = so_far
 read_after so_far (line ∷ lines) = read_after (after_line line so_far) lines

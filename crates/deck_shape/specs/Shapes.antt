@@ -20,7 +20,8 @@ pub record IsShapeOf (file : FileId) (text : List ℕ) (shape : Shape) : Type 0 
   pub read : block_of_text kind text ≡ Ok block
   pub whole : file ≡ Lattice → IsWhole block
 
--- What is not read has this fault: it is the file's, at the line and of the kind that some reading of the file gives.
+-- The fault of a file that was not read: it names the file, and the line and the kind that the definition of its
+-- reading gives. Want of memory says nothing of the file.
 abbrev pub IsFaultOf : {X : Type 0} → FileId → Result X (ℕ × ℕ) → DeckFault → Type 0
 IsFaultOf file read OutOfMemory = Unit {0}
 IsFaultOf file read (Faulty fault) = (fault.file ≡ file) × (read ≡ Err (fault.line, fault.kind))

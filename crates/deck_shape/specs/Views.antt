@@ -5,6 +5,7 @@ use Rattle.deck_shape.specs.Blocks.{item_at}
 use Rattle.deck_shape.specs.Reading.{SoFar}
 use Rattle.deck_shape.specs.declared.reading.Reading.{Reading}
 
+-- the block so far of a reader, as its text has it, and what may come next
 abbrev pub reading_at : List ℕ → Reading → SoFar
 reading_at text reading = record {
   block = record {

@@ -33,7 +33,7 @@ fn allows(arguments: Arguments, count: usize) -> bool
 }
 
 /// A word is spelled as a keyword.
-fn is_spelled(keyword: Keyword, word: &[u8]) -> bool
+pub(crate) fn is_spelled(keyword: Keyword, word: &[u8]) -> bool
     ensures { result ≡ is_spelled keyword word.now }
 {
     keyword.spelling() == word

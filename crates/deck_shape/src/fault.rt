@@ -7,8 +7,9 @@ use std::alloc::{AllocError, AllocFailed};
 /// A fault of a deck: where it is, and its kind.
 #[derive(Clone, Copy, Debug, PartialEq, Eq)]
 pub struct Fault {
+    /// The input file.
     pub file: FileId,
-    /// The line, from 1; 0 where the fault is the file as a whole.
+    /// The number of the line, from 1; 0 where the fault is the file as a whole.
     pub line: u32,
     /// One of the numbers of this crate's `kind`.
     pub kind: u8,
@@ -19,7 +20,7 @@ pub struct Fault {
 pub enum DeckFault {
     /// The file's first fault.
     Fault(Fault),
-    /// There was no memory. It says nothing of the file.
+    /// Memory was refused. It says nothing of the file.
     OutOfMemory,
 }
 

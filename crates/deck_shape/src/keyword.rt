@@ -1,7 +1,7 @@
 ghost use Rattle.std.specs.Prelude.{◌≡◌};
 ghost use Rattle.deck_shape.specs.Keywords.{spelling};
 
-/// A word that the input files know at the head of a line.
+/// A keyword of the input files: a word that may stand first in a line (Zacros manual).
 #[derive(Clone, Copy, Debug, PartialEq, Eq)]
 pub enum Keyword {
     RandomSeed,
@@ -46,7 +46,7 @@ pub enum Keyword {
 }
 
 impl Keyword {
-    /// How it is spelled in a file.
+    /// How it is spelled in a file; case counts.
     pub fn spelling(self) -> &'static [u8]
         ensures { result.now ≡ spelling self }
     {

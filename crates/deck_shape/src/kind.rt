@@ -1,6 +1,6 @@
-//! The kinds of faults, by their numbers.
+//! The kinds of faults, by the numbers that are printed for them. Where several hold at a line, the least is its fault.
 
-/// The file is of a form that is not built yet; line 0.
+/// The file is one that kmc does not take so far; line 0.
 pub const NOT_BUILT: u8 = 0;
 
 /// The file is not there; line 0.
@@ -15,7 +15,7 @@ pub const STRAY_ROW: u8 = 3;
 /// The block has no such word.
 pub const UNKNOWN_WORD: u8 = 4;
 
-/// A word of Zacros that is refused.
+/// A word of the Zacros manual that kmc does not support.
 pub const UNSUPPORTED_WORD: u8 = 5;
 
 /// The word takes another number of arguments.
@@ -30,7 +30,7 @@ pub const MISSING_WORD: u8 = 8;
 /// The file ended before its closing word; the line is that after the last.
 pub const NOT_CLOSED: u8 = 9;
 
-/// `lattice` has none of its three arguments.
+/// The argument of `lattice` is none of `default_choice`, `periodic_cell` and `explicit`.
 pub const UNKNOWN_LATTICE: u8 = 10;
 
 /// A word that should be a decimal has not the form of one.
@@ -39,10 +39,10 @@ pub const NOT_NUMBER: u8 = 11;
 /// A word that should be a whole number below 2^64 is none.
 pub const NOT_WHOLE: u8 = 12;
 
-/// A number is outside its range.
+/// A number is outside its range, or the power of ten of a decimal is outside -400 to 400.
 pub const OUT_OF_RANGE: u8 = 13;
 
-/// A sampling has none of its four forms.
+/// A sampling is none of `off`, `on event`, `on event N` and `on time D`.
 pub const BAD_CHOICE: u8 = 14;
 
 /// A list has another length than is stated; where it is absent, at the closing line.
@@ -60,26 +60,26 @@ pub const REPEATED_NAME: u8 = 18;
 /// A species is named `*` or `&`.
 pub const BAD_NAME: u8 = 19;
 
-/// An edge is none, or names what is not there.
+/// A row of `neighboring_structure` names a site of the cell that is not there.
 pub const BAD_EDGE: u8 = 20;
 
-/// A row gives a site that an earlier row gave.
+/// A row of `lattice_structure` gives a site that an earlier row gave.
 pub const REPEATED_SITE: u8 = 24;
 
-/// A row names a site that is not there.
+/// A row of `lattice_structure` names a site outside 1 to `n_sites`.
 pub const BAD_SITE: u8 = 25;
 
-/// A site is joined to itself.
+/// A site is joined to itself, by the repeats of the cell if need be.
 pub const SELF_NEIGHBOUR: u8 = 26;
 
-/// A site has more neighbours than it may have.
+/// A site has more than 32 neighbours.
 pub const TOO_MANY_NEIGHBOURS: u8 = 27;
 
-/// A row names a neighbour whose row does not name its site.
+/// A row of `lattice_structure` names a neighbour whose row does not name its site.
 pub const ONE_SIDED: u8 = 28;
 
-/// The repeats give more sites than there may be.
+/// The repeats of the cell give more than 65,536 sites.
 pub const TOO_MANY_SITES: u8 = 29;
 
-/// A type is no number of a type and no name of one.
+/// A site type is no number from 1 to `n_site_types` and no name of a type.
 pub const UNKNOWN_TYPE: u8 = 33;

@@ -1,12 +1,14 @@
 //! The shape of the input files: which words stand in which block, with their rows, and the first fault of form.
 //!
 //! `read_shape` gives exactly the block of a file, or exactly its first fault of form. The words of the blocks are
-//! tables of data, which the definitions read too. Beside them stands what the readers of all files share: what is wrong
-//! with the word of a number, or with a list, and what a word stands for. It stands on dec_text.
+//! tables of data, which the definitions read too. Beside them stands what the readers of all files share: the words and
+//! names behind a keyword, the form of a word by a table, what is wrong with the word of a number, or with a list, and
+//! what a word stands for. A name is known by its place in the bytes of its file. It stands on dec_text.
 #![tactic(auto)]
 
 mod check;
 mod fault;
+mod form;
 mod keyword;
 pub mod kind;
 mod line_words;
@@ -19,6 +21,7 @@ mod shape;
 mod table;
 
 pub use fault::{DeckFault, Fault};
+pub use form::{WordForm, form_of};
 pub use keyword::Keyword;
 pub use list::{fault_if, has_other_length, names_repeat};
 pub use name::Name;

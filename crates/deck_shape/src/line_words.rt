@@ -1,4 +1,4 @@
-ghost use Rattle.std.specs.Prelude.{◌≡◌, ℕ, List, length};
+ghost use Rattle.std.specs.Prelude.{◌≡◌, ℕ, List, length, map};
 ghost use Rattle.dec_text.specs.Spans.{line_at, run_at};
 ghost use Rattle.deck_shape.specs.LineWords.{arguments_of, begins_row, first_of};
 
@@ -17,24 +17,31 @@ pub(crate) fn head(line: &Line) -> Span
     }
 }
 
+/// The places of the words behind it.
+pub(crate) fn arguments(line: &Line) -> &[Span]
+    ensures { (text : List ℕ) → map (run_at text) result.now ≡ arguments_of (line_at text line.now) }
+{
+    match line.words.as_slice() {
+        [_, arguments @ ..] => arguments,
+        [] => &[],
+    }
+}
+
 /// The place of the first word behind it.
 pub(crate) fn argument(line: &Line) -> Span
     ensures { (text : List ℕ) → run_at text result ≡ first_of (arguments_of (line_at text line.now)) }
 {
-    match line.words.as_slice() {
-        [_, word, ..] => *word,
-        [] | [_] => NO_WORD,
+    match arguments(line) {
+        [word, ..] => *word,
+        [] => NO_WORD,
     }
 }
 
-/// How many words stand behind the word at the head.
+/// How many words stand behind it.
 pub(crate) fn argument_count(line: &Line) -> usize
     ensures { (text : List ℕ) → result ≡ length (arguments_of (line_at text line.now)) }
 {
-    match line.words.as_slice() {
-        [_, arguments @ ..] => arguments.len(),
-        [] => 0,
-    }
+    arguments(line).len()
 }
 
 /// Whether a line with this word at its head is a row.

@@ -7,14 +7,15 @@ use kmc_base::OutOfMemory;
 use std::alloc::Global;
 use std::collections::BTreeSet;
 
-/// A fault, where it holds.
+/// This kind of fault, where it holds.
 pub fn fault_if(holds: bool, kind: u8) -> Option<u8>
     ensures { result ≡ fault_if holds kind }
 {
     if holds { Some(kind) } else { None }
 }
 
-/// A list has another length than is stated, where that number has no fault.
+/// A list has another length than is stated; None stands for a stated number that has a fault itself, and no length
+/// differs from that.
 pub fn has_other_length(count: Option<u64>, members: usize) -> bool
     ensures { result ≡ has_other_length count members }
 {

@@ -12,15 +12,16 @@ use dec_text::{Decimal, DecimalFault, Span, read_decimal, read_whole};
 pub enum Number {
     /// A whole number from the first to the second.
     Whole(u64, u64),
-    /// A decimal in units of ten to the minus first, rounded half away from zero, from the second to the third.
+    /// A decimal in units of ten to minus the first number, rounded half away from zero. So many units are from the
+    /// second number to the third.
     Scaled(u32, i128, i128),
     /// A decimal from 0 to ten to this power, which is kept as it is.
     UpTo(u32),
-    /// Any decimal. It is used for nothing.
+    /// Any decimal. Its form is checked, and it is used for nothing.
     Unused,
 }
 
-/// Zero.
+/// The decimal 0.
 pub const ZERO: Decimal = Decimal {
     negative: false,
     digits: 0,
@@ -119,7 +120,8 @@ fn decimal_kind(number: Number, word: &[u8]) -> Option<u8>
     }
 }
 
-/// The fault of a number's word.
+/// The fault of a word that should be this number: `NOT_NUMBER` or `NOT_WHOLE` where it has another form,
+/// `OUT_OF_RANGE` where it is outside its range, None where it has no fault.
 pub fn number_kind(number: Number, word: &[u8]) -> Option<u8>
     requires { IsNumber number }
     ensures { result ≡ number_kind number word.now }
@@ -130,7 +132,7 @@ pub fn number_kind(number: Number, word: &[u8]) -> Option<u8>
     }
 }
 
-/// The least fault of some words.
+/// The least fault of some words that should each be this number.
 #[tactic(auto, using(crate::proofs::Least::lesser_none, crate::proofs::Least::lesser_assoc))]
 pub fn numbers_kind(number: Number, bytes: &[u8], words: &[Span]) -> Option<u8>
     requires { IsNumber number }
@@ -143,7 +145,7 @@ pub fn numbers_kind(number: Number, bytes: &[u8], words: &[Span]) -> Option<u8>
     kind
 }
 
-/// The whole number that a word stands for, or the other one where the word has a fault.
+/// The whole number from `least` to `most` that a word stands for, or `other` where the word has a fault.
 pub fn whole_value(least: u64, most: u64, other: u64, word: &[u8]) -> u64
     ensures { result ≡ whole_value least most other (whole_number word.now) }
 {
@@ -153,7 +155,8 @@ pub fn whole_value(least: u64, most: u64, other: u64, word: &[u8]) -> u64
     }
 }
 
-/// The decimal that a word stands for in units of ten to the minus `places`, or the other one where the word has a fault.
+/// The decimal that a word stands for, in units of `10^-places` and from `least` to `most` of them, or `other` where
+/// the word has a fault.
 pub fn decimal_value(places: u32, least: i128, most: i128, other: i128, word: &[u8]) -> i128
     requires places { places ≤ 27 }
     requires least { neg_ℤ (pos (10 ^ 36)) ≤ℤ least }
@@ -166,7 +169,7 @@ pub fn decimal_value(places: u32, least: i128, most: i128, other: i128, word: &[
     }
 }
 
-/// The decimal that a word stands for, or 0 where the word has a fault.
+/// The decimal from 0 to `10^power` that a word stands for, or 0 where the word has a fault.
 pub fn up_to_value(power: u32, word: &[u8]) -> Decimal
     requires { power ≤ 18 }
     ensures { result ≡ up_to_value power (decimal_of word.now) }

@@ -90,7 +90,8 @@ fn read_block(
 /// The shape of a file: its block with its word lines and rows, or its first fault of form.
 ///
 /// The faults of form are `kind::STRAY_ROW` to `kind::UNKNOWN_LATTICE`. A file is read up to its first faulty line, or
-/// its closing word; of the kinds that hold at that line the least is the fault.
+/// its closing word; of the kinds that hold at that line the least is the fault. The files that have tables so far are
+/// those of the simulation and of the lattice.
 pub fn read_shape(alloc: Global, file: FileId, bytes: &[u8]) -> Result<Shape, DeckFault>
     requires known { IsSome (first_block file) }
     requires short { length bytes.now < 2 ^ 32 - 1 }

@@ -22,7 +22,7 @@ pub(crate) enum Below {
     Enclosed(BlockKind),
 }
 
-/// What is read of a file: its block so far, and what may come next.
+/// What has been read of a file: its block so far, and what may come next.
 #[derive(Debug, Drop)]
 pub(crate) struct Reading {
     pub(crate) kind: BlockKind,

@@ -1,5 +1,6 @@
 //! The words of each block of the input files, as data: the definitions and the reader go by these tables, and a
-//! further word is a further rule.
+//! further word is a further rule. The words are those of the Zacros manual; how many arguments each takes, and which
+//! are required, are kmc's own.
 
 ghost use Rattle.std.specs.Prelude.{◌≡◌};
 ghost use Rattle.deck_shape.specs.Tables.{rules_of};
@@ -9,9 +10,9 @@ use crate::keyword::Keyword;
 /// A block of an input file.
 #[derive(Clone, Copy, Debug, PartialEq, Eq)]
 pub enum BlockKind {
-    /// Simulation_input.dat, which is a block as a whole.
+    /// The file `simulation_input.dat`, which is a block as a whole.
     Simulation,
-    /// Lattice_input.dat before its block is opened.
+    /// The file `lattice_input.dat` before its block is opened.
     LatticeFile,
     /// `lattice default_choice`.
     DefaultChoice,
@@ -28,18 +29,22 @@ pub enum BlockKind {
 /// How many arguments a word takes.
 #[derive(Clone, Copy, Debug, PartialEq, Eq)]
 pub enum Arguments {
+    /// This number of them.
     Exactly(usize),
     /// From the first number to the second.
     Between(usize, usize),
+    /// Any number of them.
     Any,
 }
 
 /// Whether a word has to stand in its block.
 #[derive(Clone, Copy, Debug, PartialEq, Eq)]
 pub enum Need {
+    /// It may be absent.
     Optional,
+    /// It has to stand.
     Required,
-    /// This word or the other one has to. The two count as one word.
+    /// This word or the other one has to stand. The two count as one word.
     ThisOr(Keyword),
 }
 
@@ -56,22 +61,26 @@ pub enum Role {
     BeginsLattice,
     /// It closes its block.
     Closes,
-    /// It is a word of Zacros that is refused.
+    /// It is a word of the Zacros manual that kmc does not support.
     Unsupported,
 }
 
 /// A word of a block.
 #[derive(Clone, Copy, Debug)]
 pub struct Rule {
+    /// The word.
     pub keyword: Keyword,
+    /// How many arguments it takes.
     pub arguments: Arguments,
     /// It stands at most once in its block.
     pub is_once: bool,
+    /// Whether it has to stand.
     pub need: Need,
+    /// What it does.
     pub role: Role,
 }
 
-/// The words of simulation_input.dat, which is a block as a whole.
+/// The words of `simulation_input.dat`, which is a block as a whole.
 pub const SIMULATION: [Rule; 21] = [
     Rule {
         keyword: Keyword::RandomSeed,
@@ -222,7 +231,7 @@ pub const SIMULATION: [Rule; 21] = [
     },
 ];
 
-/// The words of lattice_input.dat before its block is opened.
+/// The words of `lattice_input.dat` before its block is opened.
 pub const LATTICE_FILE: [Rule; 1] = [Rule {
     keyword: Keyword::Lattice,
     arguments: Arguments::Exactly(1),

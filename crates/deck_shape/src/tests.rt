@@ -116,11 +116,37 @@ fn reads_a_cell(rt: HostRuntime) -> Result<(), Fail> {
     for block in shape.blocks.as_slice() {
         assert_eq!(rt; block.name.bytes(text), b"periodic_cell".as_slice());
         assert_eq!(rt; block.kind.rules().len(), 9);
-        let vectors = block
-            .item(text, Keyword::CellVectors)
-            .map(|item| (item.line.number, item.rows.len()));
-        assert_eq!(rt; vectors, Some((2, 2)));
+        let vectors = block.item(text, Keyword::CellVectors).map(|item| (
+            item.line.number,
+            item.arguments().len(),
+            item.rows.len(),
+        ));
+        assert_eq!(rt; vectors, Some((2, 0, 2)));
         assert!(rt; block.item(text, Keyword::SiteCoordinates).is_none());
+    }
+    Ok(())
+}
+
+#[test]
+fn reads_a_list(rt: HostRuntime) -> Result<(), Fail> {
+    let text: &[u8] =
+        b"lattice explicit\nn_sites 1\nn_site_types 2\nsite_type_names top hollow\nlattice_structure\n1 0 0 top 0\nend_lattice_structure\nend_lattice\n";
+    let shape = read_shape(rt.alloc(), FileId::Lattice, text)?;
+    for block in shape.blocks.as_slice() {
+        let behind = block
+            .words_behind(text, Keyword::NSites)
+            .map(|words| words.len());
+        assert_eq!(rt; behind, Some(1));
+        assert!(rt; block.words_behind(text, Keyword::MaxCoord).is_none());
+        let list = block.list_in(text, Keyword::SiteTypeNames);
+        assert_eq!(rt; list.len(), 2);
+        let names = block.names_in(rt.alloc(), text, Keyword::SiteTypeNames)?;
+        assert_eq!(rt; names.len(), 2);
+        for (name, (span, word)) in names.iter().zip(list.iter().zip(["top", "hollow"])) {
+            assert_eq!(rt; name.span, *span);
+            assert_eq!(rt; name.line, 4);
+            assert_eq!(rt; span.bytes(text), word.as_bytes());
+        }
     }
     Ok(())
 }
@@ -172,4 +198,25 @@ fn words_of_lists(rt: HostRuntime) -> Result<(), Fail> {
     let other_length = has_other_length(Some(2), spans.len());
     assert_eq!(rt; fault_if(other_length, kind::LIST_LENGTH), Some(15));
     Ok(())
+}
+
+#[test]
+fn forms_of_words(rt: HostRuntime) {
+    let table = [
+        WordForm {
+            keyword: Keyword::NSites,
+            form: 1u8,
+        },
+        WordForm {
+            keyword: Keyword::MaxCoord,
+            form: 2,
+        },
+    ];
+    for (word, form) in [
+        ("n_sites", Some(1)),
+        ("max_coord", Some(2)),
+        ("n_site", None),
+    ] {
+        assert_eq!(rt; form_of(&table, word.as_bytes()), form, "{word}");
+    }
 }

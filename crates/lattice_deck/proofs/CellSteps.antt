@@ -9,14 +9,14 @@ use Rattle.lattice_cell.specs.declared.cell.Toward.{Toward}
 use Rattle.lattice_cell.specs.declared.cell.Toward.TheVariants.{Own, North, Northeast, East, Southeast}
 use Rattle.lattice_deck.proofs.Displacements.{is_back, small_mod}
 
--- a number is told by its quotient and its rest
+-- a number is told by its quotient and its remainder
 pub same_parts : (a b x y w : ℕ) → b < w → y < w → a * w + b ≡ x * w + y → (a ≡ x) × (b ≡ y)
 same_parts a b x y w low below same =
     let quotient : a ≡ x = sym (div-mul-add a w b low) ∙ ap (λ n. n / w) same ∙ div-mul-add x w y below in
     let rest : b ≡ y = sym (mod-mul-add a w b low) ∙ ap (λ n. n % w) same ∙ mod-mul-add x w y below in
     (quotient, rest)
 
--- a rest once around
+-- a remainder once around
 around : (x w : ℕ) → w ≤ x → x < w + w → x % w ≡ x - w
 around x w high low = let e : 1 * w + (x - w) ≡ x = omega arith in rw e at (mod-mul-add 1 w (x - w) (omega arith))
 

@@ -5,8 +5,8 @@ use Rattle.dec_text.specs.Spans.{line_at}
 use Rattle.dec_text.specs.declared.lines.Line.{Line}
 use Rattle.deck_shape.specs.Blocks.{item_at}
 use Rattle.deck_shape.specs.declared.shape.Item.{Item}
-use Rattle.site_rows.specs.FirstFault.{fault_or, first_of_lines, line_fault}
-use Rattle.site_rows.specs.Words.{row_words}
+use Rattle.deck_shape.specs.FirstFault.{fault_or, first_of_lines, line_fault}
+use Rattle.lattice_deck.specs.Words.{row_words}
 use Rattle.lattice_deck.specs.Faults.{fault_among, item_lines, row_lines}
 use Rattle.lattice_deck.specs.declared.sizes.Sizes.{Sizes}
 use Rattle.lattice_deck.proofs.Maps.{next_mapped}

@@ -9,6 +9,8 @@ use Rattle.std.proofs.lemmas.List.{length-map}
 use Rattle.dec_text.specs.Lines.{Run}
 use Rattle.dec_text.specs.Wholes.{whole_number}
 use Rattle.deck_shape.specs.Blocks.{BlockLines, ItemLines, has_keyword, stands}
+use Rattle.deck_shape.specs.Forms.{form_of}
+use Rattle.deck_shape.specs.Items.{list_in, words_behind, words_of}
 use Rattle.deck_shape.specs.Keywords.{spelling}
 use Rattle.deck_shape.specs.LineFaults.{is_missing}
 use Rattle.deck_shape.specs.LineWords.{arguments_of, head_of}
@@ -25,19 +27,18 @@ use Rattle.deck_shape.specs.declared.table.BlockKind.TheVariants.{Simulation, La
 use Rattle.deck_shape.specs.declared.table.Rule.{Rule}
 use Rattle.kmc_base.specs.declared.ids.TheConstants.{MAX_SITES}
 use Rattle.lattice_cell.specs.declared.expand.DefaultLattice.TheVariants.{Hexagonal, Rectangular}
-use Rattle.site_rows.specs.FirstFault.{first_of_lines}
+use Rattle.deck_shape.specs.FirstFault.{first_of_lines}
 use Rattle.lattice_deck.specs.Faultless.{AreFaultless, HasDefault, IsDefault, IsDefaultOf}
-use Rattle.lattice_deck.specs.Faults.{fault_among, first_fault, form_lines, form_of, item_lines, rows_faults, word_kind}
-use Rattle.lattice_deck.specs.Items.{words_behind, words_of}
+use Rattle.lattice_deck.specs.Faults.{fault_among, first_fault, form_lines, item_lines, rows_faults, word_kind}
 use Rattle.lattice_deck.specs.Joins.{crowds}
-use Rattle.lattice_deck.specs.Parts.{list_in, rows_in}
+use Rattle.lattice_deck.specs.Parts.{rows_in}
 use Rattle.lattice_deck.specs.Sizes.{gives_too_many, or_else, repeats_kind, repeats_of, sites_in, sizes_in, sound_repeats, stated, whole_of}
 use Rattle.lattice_deck.specs.declared.forms.Form.{Form}
 use Rattle.lattice_deck.specs.declared.forms.Form.TheVariants.{Number, Repeats, TypeNames, Types, Joins, SiteRows, Default}
-use Rattle.lattice_deck.specs.declared.forms.TheConstants.{REPEAT, SITE_COUNT, TYPE_COUNT}
+use Rattle.lattice_deck.specs.declared.forms.TheConstants.{FORMS, REPEAT, SITE_COUNT, TYPE_COUNT}
 use Rattle.lattice_deck.specs.declared.sizes.Sizes.{Sizes}
 use Rattle.lattice_deck.proofs.CellJoins.{both_none, line_none, same_count}
-use Rattle.lattice_deck.proofs.Maps.{IfSome-find}
+use Rattle.deck_shape.proofs.Maps.{IfSome-find}
 use Rattle.lattice_deck.proofs.SizesSound.{neither, not_held, repeats_known, sizes_sound, whole_known}
 
 -- a word line that stands is found, and passes what it was sought by
@@ -102,9 +103,9 @@ module _ (kind : BlockKind) (items : List ItemLines) (keyword : Keyword) (f : Is
       ap (allows rule.arguments) (length-map (arguments_of f.item.line) (λ (word : Run). word.bytes)) ∙ ap (λ r. allows r.arguments (length (arguments_of f.item.line))) (sym same) ∙ f.known.is_allowed
 
   -- no fault, by the form of the keyword
-  formed : (form : Form) → form_of (spelling keyword) ≡ Some form → (word_kind (sizes_in items) form f.item ≡ None) × (first_of_lines (rows_faults (sizes_in items) form f.item.rows) ≡ None)
+  formed : (form : Form) → form_of FORMS (spelling keyword) ≡ Some form → (word_kind (sizes_in items) form f.item ≡ None) × (first_of_lines (rows_faults (sizes_in items) form f.item.rows) ≡ None)
   formed form is_form =
-      let e : form_of (head_of f.item.line) ≡ Some form = ap form_of f.word ∙ is_form in
+      let e : form_of FORMS (head_of f.item.line) ≡ Some form = ap (form_of FORMS) f.word ∙ is_form in
       let lines : first_of_lines (form_lines (sizes_in items) f.item form) ≡ None = sym (ap (λ r. first_of_lines (option_map_or (form_lines (sizes_in items) f.item) r [])) e) ∙ f.none in
       line_none f.item.line.number (word_kind (sizes_in items) form f.item) (first_of_lines (rows_faults (sizes_in items) form f.item.rows)) lines
 

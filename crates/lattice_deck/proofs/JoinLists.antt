@@ -1,5 +1,5 @@
 -- the joins of rows
-use Rattle.std.proofs.Common.{◌≡◌, ℕ, ◌+◌, ◌<◌, List, [], ◌∷◌, ◌++◌, length, map, get_or, drop, Option, None, Some, ap, sym, ◌∙◌, refl, append_assoc}
+use Rattle.std.proofs.Common.{◌≡◌, ℕ, ◌+◌, ◌<◌, List, ◌∷◌, ◌++◌, length, map, get_or, drop, Option, None, ap, sym, ◌∙◌}
 use Rattle.std.specs.Option.{option_map}
 use Rattle.std.specs.Prelude.{option_and_then}
 use Rattle.dec_text.specs.Spans.{line_at}
@@ -12,24 +12,9 @@ use Rattle.lattice_deck.proofs.Maps.{next_mapped}
 abbrev pub with_found : List Join → Option (List Join) → Option (List Join)
 with_found done rest = option_map (λ joins. done ++ joins) rest
 
-with_one : (done : List Join) (join : Join) (rest : Option (List Join)) → with_found (done ++ join ∷ []) rest ≡ with_found done (option_map (λ joins. join ∷ joins) rest)
-with_one done join None = refl
-with_one done join (Some rest) = ap Some (append_assoc done (join ∷ []) rest)
-
-pub with_none : (rest : Option (List Join)) → with_found [] rest ≡ rest
-with_none None = refl
-with_none (Some rest) = refl
-
 module _ (sites : ℕ) (text : List ℕ) (rows : List Line) (i : ℕ) (row : Line) (here : i < length rows) (is : row ≡ get_or rows i row) where
   next_row : joins_of sites (map (line_at text) (drop i rows)) ≡ option_and_then (λ join. option_map (λ joins. join ∷ joins) (joins_of sites (map (line_at text) (drop (i + 1) rows)))) (join_on sites (line_at text row))
   next_row = ap (joins_of sites) (next_mapped (line_at text) rows i row here is)
-
-  pub join_found : (done : List Join) (join : Join) → Some join ≡ join_on sites (line_at text row)
-      → with_found (done ++ join ∷ []) (joins_of sites (map (line_at text) (drop (i + 1) rows))) ≡ with_found done (joins_of sites (map (line_at text) (drop i rows)))
-  join_found done join found =
-      let rest = joins_of sites (map (line_at text) (drop (i + 1) rows)) in
-      with_one done join rest
-      ∙ ap (with_found done) (sym (next_row ∙ ap (option_and_then (λ j. option_map (λ joins. j ∷ joins) rest)) (sym found)))
 
   pub no_join : (done : List Join) → None ≡ join_on sites (line_at text row) → with_found done (joins_of sites (map (line_at text) (drop i rows))) ≡ None
   no_join done none =

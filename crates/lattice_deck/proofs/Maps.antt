@@ -1,11 +1,5 @@
--- searches of lists, and lists of which a part is left
-use Rattle.std.proofs.Common.{◌≡◌, ℕ, ◌+◌, ◌<◌, suc, Bool, true, false, cond, List, [], ◌∷◌, length, map, get_or, drop, Some, IfSome, ap, sym, ◌∙◌, arith, drop-cons, add-one}
-use Rattle.std.specs.List.{AllByRecursion, find}
-
--- what holds of each member holds of the one that is found
-pub IfSome-find : {X : Type 0} (P : X → Type 0) (p : X → Bool) (xs : List X) → AllByRecursion P xs → IfSome (find p xs) P
-IfSome-find P p [] all = tt
-IfSome-find P p (x ∷ xs) all = elim (p x) as (λ b. IfSome (cond b (Some x) (find p xs)) P) [ true ↦ all.0 | false ↦ IfSome-find P p xs all.1 ]
+-- lists of which a part is left
+use Rattle.std.proofs.Common.{◌≡◌, ℕ, ◌+◌, ◌<◌, suc, List, [], ◌∷◌, length, map, get_or, drop, ap, sym, ◌∙◌, arith, drop-cons, add-one}
 
 -- the values that are left are that of this member and those behind it
 pub next_mapped : {X Y : Type 0} (h : X → Y) (xs : List X) (i : ℕ) (x : X) → i < length xs → x ≡ get_or xs i x → map h (drop i xs) ≡ h x ∷ map h (drop (i + 1) xs)

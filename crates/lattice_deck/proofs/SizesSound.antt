@@ -7,12 +7,12 @@ use Rattle.kmc_base.specs.declared.ids.TheConstants.{MAX_SITES}
 use Rattle.dec_text.specs.Wholes.{whole_number}
 use Rattle.dec_text.specs.declared.faults.NotWhole.{NotWhole}
 use Rattle.deck_shape.specs.Blocks.{ItemLines}
+use Rattle.deck_shape.specs.Items.{words_behind}
 use Rattle.deck_shape.specs.Lists.{fault_if}
 use Rattle.deck_shape.specs.Numbers.{is_whole_within, lesser, numbers_kind, whole_kind, whole_value}
 use Rattle.deck_shape.specs.declared.keyword.Keyword.{Keyword}
 use Rattle.deck_shape.specs.declared.keyword.Keyword.TheVariants.{NCellSites, NSiteTypes, NSites, RepeatCell}
 use Rattle.deck_shape.specs.declared.kind.TheConstants.{OUT_OF_RANGE, TOO_MANY_SITES}
-use Rattle.lattice_deck.specs.Items.{words_behind}
 use Rattle.lattice_deck.specs.Sizes.{AreRepeats, IsSizes, gives_too_many, or_else, repeats_kind, repeats_of, sites_in, sizes_in, sound_repeats, stated, whole_of}
 use Rattle.lattice_deck.specs.declared.forms.TheConstants.{REPEAT}
 use Rattle.lattice_deck.specs.declared.sizes.Sizes.{Sizes}

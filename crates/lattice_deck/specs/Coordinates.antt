@@ -1,4 +1,4 @@
--- Rows of decimals that are used for nothing but their form.
+-- Rows of `cell_vectors` and `site_coordinates`: decimals whose form is checked, and which are used for nothing.
 use Rattle.std.specs.Prelude.{ℕ, ◌==◌, List, length, Option, None, Some, if◌then◌else◌}
 use Rattle.deck_shape.specs.Numbers.{numbers_kind}
 use Rattle.deck_shape.specs.declared.kind.TheConstants.{NOT_NUMBER, ROW_FORM}

@@ -2,20 +2,20 @@
 use Rattle.std.specs.Prelude.{ℕ, ◌≡◌, ◌≤◌, true, false, List, length, Option, None, Some, is_some}
 use Rattle.dec_text.specs.Lines.{WordLine}
 use Rattle.deck_shape.specs.Blocks.{ItemLines}
+use Rattle.deck_shape.specs.Items.{list_in, words_behind}
 use Rattle.deck_shape.specs.Lists.{has_other_length}
 use Rattle.deck_shape.specs.declared.keyword.Keyword.TheVariants.{HexagonalPeriodic, LatticeStructure, NeighboringStructure, RectangularPeriodic, SiteTypeNames, SiteTypes}
 use Rattle.deck_shape.specs.declared.table.BlockKind.{BlockKind}
 use Rattle.deck_shape.specs.declared.table.BlockKind.TheVariants.{Simulation, LatticeFile, DefaultChoice, PeriodicCell, Explicit, NeighboringStructure as NeighboringRows, LatticeStructure as LatticeRows}
-use Rattle.site_rows.specs.FirstFault.{first_of_lines}
-use Rattle.site_rows.specs.SiteRows.{site_rows_fault}
+use Rattle.deck_shape.specs.FirstFault.{first_of_lines}
+use Rattle.lattice_deck.specs.SiteRows.{site_rows_fault}
 use Rattle.lattice_deck.specs.Faults.{default_kind, row_lines}
-use Rattle.lattice_deck.specs.Items.{words_behind}
 use Rattle.lattice_deck.specs.Joins.{crowds, join_kind}
-use Rattle.lattice_deck.specs.Parts.{list_in, rows_in}
+use Rattle.lattice_deck.specs.Parts.{rows_in}
 use Rattle.lattice_deck.specs.Sizes.{IsSizes, sizes_in}
 use Rattle.lattice_deck.specs.declared.sizes.Sizes.{Sizes}
 
--- the words of a default lattice: its constant and its two repeats
+-- the words of a default lattice: its lattice constant and its two repeats
 pub record IsDefault (words : List (List ℕ)) : Type 0 where
   pub three : length words ≡ 3
   pub none : default_kind words ≡ None
@@ -25,6 +25,7 @@ abbrev pub IsDefaultOf : Option (List (List ℕ)) → List (List ℕ) → Type 0
 IsDefaultOf None other = IsDefault other
 IsDefaultOf (Some words) other = IsDefault words
 
+-- the file has the words of a default lattice
 abbrev pub HasDefault : List ItemLines → Type 0
 HasDefault items = IsDefaultOf (words_behind RectangularPeriodic items) (list_in HexagonalPeriodic items)
 

@@ -1,20 +1,19 @@
 -- The faults of the values of a lattice file: which kind holds at each line, and which fault is the first.
 use Rattle.std.specs.Prelude.{ℕ, ◌==◌, ◌||◌, Bool, false, List, [], ◌∷◌, length, map, Option, None, Some}
-use Rattle.std.specs.List.{find}
-use Rattle.std.specs.Option.{option_map, option_map_or}
+use Rattle.std.specs.Option.{option_map_or}
 use Rattle.dec_text.specs.Lines.{WordLine}
 use Rattle.deck_shape.specs.Blocks.{BlockLines, ItemLines}
+use Rattle.deck_shape.specs.Forms.{form_of}
+use Rattle.deck_shape.specs.Items.{words_of}
 use Rattle.deck_shape.specs.LineWords.{head_of}
 use Rattle.deck_shape.specs.Lists.{fault_if, has_other_length}
 use Rattle.deck_shape.specs.Numbers.{lesser, number_kind, numbers_kind}
-use Rattle.deck_shape.specs.Tables.{is_spelled}
 use Rattle.deck_shape.specs.declared.kind.TheConstants.{LIST_LENGTH, ROW_COUNT, SELF_NEIGHBOUR, TOO_MANY_NEIGHBOURS}
 use Rattle.deck_shape.specs.declared.number.Number.TheVariants.{Unused}
-use Rattle.site_rows.specs.FirstFault.{fault_or, first_of_lines}
-use Rattle.site_rows.specs.Words.{row_words}
-use Rattle.site_rows.specs.SiteRows.{rows_of, site_lines}
+use Rattle.deck_shape.specs.FirstFault.{fault_or, first_of_lines}
+use Rattle.lattice_deck.specs.Words.{row_words}
+use Rattle.lattice_deck.specs.SiteRows.{rows_of, site_lines}
 use Rattle.lattice_deck.specs.Coordinates.{coordinates_kind}
-use Rattle.lattice_deck.specs.Items.{words_of}
 use Rattle.lattice_deck.specs.Joins.{crowds, join_kind}
 use Rattle.lattice_deck.specs.Sizes.{repeats_kind, repeats_of, sizes_in}
 use Rattle.lattice_deck.specs.Types.{type_names_kind}
@@ -24,10 +23,6 @@ use Rattle.lattice_deck.specs.declared.forms.RowCount.{RowCount}
 use Rattle.lattice_deck.specs.declared.forms.RowCount.TheVariants.{Exactly, OnePerSite}
 use Rattle.lattice_deck.specs.declared.forms.TheConstants.{FORMS}
 use Rattle.lattice_deck.specs.declared.sizes.Sizes.{Sizes}
-
--- the form of a word
-abbrev pub form_of : List ℕ → Option Form
-form_of word = option_map (λ f. f.form) (find (λ f. is_spelled f.keyword word) FORMS)
 
 -- how many rows a word should have, where that is known
 abbrev pub row_count : Sizes → RowCount → Option ℕ
@@ -43,7 +38,7 @@ abbrev pub is_narrow : Option (ℕ × ℕ) → Bool
 is_narrow None = false
 is_narrow (Some repeats) = repeats.0 == 1 || repeats.1 == 1
 
--- the fault of a default lattice: of its constant, of its repeats, or of a site that is its own neighbour
+-- the fault of a default lattice: of its lattice constant, of its repeats, or of a site that is its own neighbour
 abbrev pub default_kind : List (List ℕ) → Option ℕ
 default_kind [] = None
 default_kind (constant ∷ repeats) =
@@ -75,12 +70,13 @@ rows_faults sizes Joins rows = row_lines (join_kind sizes) rows
 rows_faults sizes SiteRows rows = site_lines sizes.sites [] (rows_of rows) rows
 rows_faults sizes (Default kind) rows = []
 
--- the lines of a word and its rows, with their faults
+-- the lines of a word of this form and of its rows, with their faults
 abbrev pub form_lines : Sizes → ItemLines → Form → List (ℕ × Option ℕ)
 form_lines sizes item form = (item.line.number, word_kind sizes form item) ∷ rows_faults sizes form item.rows
 
+-- the same by the form of the word; none where the table has no such word
 abbrev pub item_lines : Sizes → ItemLines → List (ℕ × Option ℕ)
-item_lines sizes item = option_map_or (form_lines sizes item) (form_of (head_of item.line)) []
+item_lines sizes item = option_map_or (form_lines sizes item) (form_of FORMS (head_of item.line)) []
 
 -- the fault of the first of some word lines that has one
 abbrev pub fault_among : Sizes → List ItemLines → Option (ℕ × ℕ)

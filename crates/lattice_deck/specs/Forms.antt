@@ -3,7 +3,7 @@ use Rattle.deck_shape.specs.Numbers.{IsNumber}
 use Rattle.lattice_deck.specs.declared.forms.Form.{Form}
 use Rattle.lattice_deck.specs.declared.forms.Form.TheVariants.{Number, Repeats, TypeNames, Types, Coordinates, Joins, SiteRows, Default}
 
--- the bounds of a number can be compared with
+-- the numbers have bounds that a decimal can be compared with
 abbrev pub IsForm : Form → Type 0
 IsForm (Number number) = IsNumber number
 IsForm Repeats = Unit {0}

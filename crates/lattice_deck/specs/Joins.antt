@@ -1,4 +1,5 @@
--- The rows of `neighboring_structure`, each of which joins two sites of a cell: `i-j` and where the cell of the second is.
+-- The rows of `neighboring_structure` (Zacros manual): `i-j D` joins site i of each cell to site j of the cell that the
+-- displacement D leads to.
 use Rattle.std.specs.Prelude.{ℕ, ◌-◌, ◌==◌, ◌&&◌, ◌||◌, Bool, true, false, List, [], ◌∷◌, length, Option, None, Some, codes, if◌then◌else◌, nat_lt, option_and_then}
 use Rattle.std.specs.List.{after_first, before_first, list_any}
 use Rattle.std.specs.Option.{option_map}
@@ -11,11 +12,11 @@ use Rattle.lattice_cell.specs.declared.cell.Join.{Join}
 use Rattle.lattice_cell.specs.declared.cell.Toward.{Toward}
 use Rattle.lattice_cell.specs.declared.cell.Toward.TheVariants.{Own, North, Northeast, East, Southeast}
 use Rattle.lattice_core.specs.declared.graph.TheConstants.{MAX_NEIGHBOURS}
-use Rattle.site_rows.specs.Words.{is_no_site, row_words, some_whole}
+use Rattle.lattice_deck.specs.Words.{is_no_site, row_words, some_whole}
 use Rattle.lattice_deck.specs.declared.joins.JoinRow.{JoinRow}
 use Rattle.lattice_deck.specs.declared.sizes.Sizes.{Sizes}
 
--- where the cell of the second site is
+-- the displacement of the second site's cell
 abbrev pub toward_of : List ℕ → Option Toward
 toward_of word =
     if same_word (codes "self") word
@@ -96,19 +97,21 @@ abbrev pub joins_of : ℕ → List WordLine → Option (List Join)
 joins_of sites [] = Some []
 joins_of sites (row ∷ rows) = option_and_then (λ join. option_map (λ joins. join ∷ joins) (joins_of sites rows)) (join_on sites row)
 
--- some site has more neighbours than it may have, itself among them where it is joined to itself
+-- some site has more than 32 neighbours, itself among them where it is joined to itself
 abbrev pub is_crowded : ℕ → ℕ × ℕ → List Join → Bool
 is_crowded sites repeats joins = list_any (λ list. nat_lt MAX_NEIGHBOURS (length list)) (neighbour_lists repeats.0 repeats.1 sites joins)
 
+-- the same for rows that all give joins
 abbrev pub crowds_by : ℕ → ℕ × ℕ → Option (List Join) → Bool
 crowds_by sites repeats None = false
 crowds_by sites repeats (Some joins) = is_crowded sites repeats joins
 
+-- the same where the number of sites and the repeats are known too
 abbrev pub crowds_at : Option ℕ → Option (ℕ × ℕ) → List WordLine → Bool
 crowds_at None repeats rows = false
 crowds_at (Some sites) None rows = false
 crowds_at (Some sites) (Some repeats) rows = crowds_by sites repeats (joins_of sites rows)
 
--- the same, where the number of sites, the repeats and all rows are known
+-- some site has more than 32 neighbours, by the numbers of the file and these rows
 abbrev pub crowds : Sizes → List WordLine → Bool
 crowds sizes rows = crowds_at sizes.sites sizes.repeats rows

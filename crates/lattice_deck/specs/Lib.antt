@@ -2,9 +2,13 @@ pub mod Coordinates
 pub mod Faultless
 pub mod Faults
 pub mod Forms
-pub mod Items
 pub mod Joins
+pub mod Listed
 pub mod Parts
+pub mod Placing
+pub mod ReadRows
+pub mod RowLookup
+pub mod SiteRows
 pub mod Sizes
 pub mod Types
-pub mod Views
+pub mod Words

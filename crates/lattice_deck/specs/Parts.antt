@@ -4,8 +4,9 @@ use Rattle.std.specs.List.{find}
 use Rattle.std.specs.Option.{option_map_or}
 use Rattle.dec_text.specs.Lines.{WordLine}
 use Rattle.deck_shape.specs.Blocks.{BlockLines, ItemLines, has_keyword}
-use Rattle.deck_shape.specs.LineWords.{arguments_of, first_of, after_first}
-use Rattle.deck_shape.specs.Names.{NameWord, name_at}
+use Rattle.deck_shape.specs.Items.{list_in, names_in, words_behind}
+use Rattle.deck_shape.specs.LineWords.{first_of, after_first}
+use Rattle.deck_shape.specs.Names.{NameWord, name_at, on_line}
 use Rattle.deck_shape.specs.declared.keyword.Keyword.{Keyword}
 use Rattle.deck_shape.specs.declared.keyword.Keyword.TheVariants.{HexagonalPeriodic, LatticeStructure, NeighboringStructure, RectangularPeriodic, SiteTypeNames, SiteTypes}
 use Rattle.deck_shape.specs.declared.table.BlockKind.{BlockKind}
@@ -15,11 +16,10 @@ use Rattle.lattice_cell.specs.Periodic.{periodic_lattice}
 use Rattle.lattice_cell.specs.declared.expand.DefaultLattice.{DefaultLattice}
 use Rattle.lattice_cell.specs.declared.expand.DefaultLattice.TheVariants.{Hexagonal, Rectangular}
 use Rattle.lattice_core.specs.Lattice.{Lattice}
-use Rattle.site_rows.specs.Listed.{listed_lattice}
-use Rattle.site_rows.specs.SiteRows.{rows_of}
-use Rattle.site_rows.specs.Types.{type_of}
+use Rattle.lattice_deck.specs.Listed.{listed_lattice}
+use Rattle.lattice_deck.specs.SiteRows.{rows_of}
+use Rattle.lattice_deck.specs.Types.{type_of}
 use Rattle.lattice_deck.specs.Faults.{first_fault}
-use Rattle.lattice_deck.specs.Items.{words_behind}
 use Rattle.lattice_deck.specs.Joins.{joins_of}
 use Rattle.lattice_deck.specs.Sizes.{repeats_of, sizes_in}
 use Rattle.lattice_deck.specs.declared.part.LatticePart.{LatticePart}
@@ -39,19 +39,16 @@ values_at text part = record {
   type_words = map (name_at text) part.type_words;
 }
 
--- the words of a list, none where it is absent
-abbrev pub list_in : Keyword → List ItemLines → List (List ℕ)
-list_in keyword items = unwrap_or (words_behind keyword items) []
-
 -- the rows of a word, none where it is absent
 abbrev pub rows_in : Keyword → List ItemLines → List WordLine
 rows_in keyword items = option_map_or (λ item. item.rows) (find (has_keyword keyword) items) []
 
--- the repeats of a default lattice, behind its constant
+-- the repeats of a default lattice, behind its lattice constant
 abbrev pub behind_constant : List (List ℕ) → List (List ℕ)
 behind_constant [] = []
 behind_constant (constant ∷ repeats) = repeats
 
+-- the default lattice of these words
 abbrev pub default_of : DefaultLattice → List (List ℕ) → Lattice
 default_of kind words = option_map_or (λ r. default_lattice kind r.0 r.1) (repeats_of (behind_constant words)) (record { types = []; neighbours = [] })
 
@@ -63,26 +60,23 @@ default_values items = record {
   type_words = [];
 }
 
--- the names on a line
-abbrev pub names_on : ItemLines → List NameWord
-names_on item = map (λ word. record { word = word; line = item.line.number }) (arguments_of item.line)
-
 -- the lattice of a periodic cell, by its numbers, the names of types, the type words and the rows that join sites
 abbrev pub cell_of : Sizes → List (List ℕ) → List (List ℕ) → List WordLine → Lattice
 cell_of sizes names types rows =
     let repeats = unwrap_or sizes.repeats (0, 0) in
     periodic_lattice repeats.0 repeats.1 (map (type_of names) types) (unwrap_or (joins_of (unwrap_or sizes.sites 0) rows) [])
 
+-- the values of a file with a periodic cell
 abbrev pub cell_values : List ItemLines → LatticeValues
 cell_values items = record {
   lattice = cell_of (sizes_in items) (list_in SiteTypeNames items) (list_in SiteTypes items) (rows_in NeighboringStructure items);
   type_names = list_in SiteTypeNames items;
-  type_words = option_map_or names_on (find (has_keyword SiteTypes) items) [];
+  type_words = names_in SiteTypes items;
 }
 
 -- the type word of a row of a site, its fourth word
 abbrev pub type_on : WordLine → NameWord
-type_on row = record { word = first_of (after_first (after_first (after_first row.words))); line = row.number }
+type_on row = on_line row.number (first_of (after_first (after_first (after_first row.words))))
 
 -- the values of a file with a list of sites
 abbrev pub explicit_values : List ItemLines → LatticeValues
@@ -92,7 +86,7 @@ explicit_values items = record {
   type_words = map type_on (rows_in LatticeStructure items);
 }
 
--- the values of a block, by its kind
+-- the values of a block, by its kind; the last four are the kinds of no lattice
 abbrev pub values_of : BlockKind → List ItemLines → LatticeValues
 values_of DefaultChoice items = default_values items
 values_of PeriodicCell items = cell_values items

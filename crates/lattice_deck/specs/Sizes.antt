@@ -1,14 +1,14 @@
--- The numbers of a lattice file that other lines go by; None where the line that states one has a fault.
+-- The numbers of a lattice file that other lines depend on; None where the line that states one has a fault.
 use Rattle.std.specs.Prelude.{ℕ, ◌≡◌, ◌≤◌, ◌*◌, IfSome, Bool, false, List, [], ◌∷◌, Option, None, Some, if◌then◌else◌, is_none, nat_lt, option_and_then}
 use Rattle.kmc_base.specs.declared.ids.TheConstants.{MAX_SITES}
 use Rattle.dec_text.specs.Wholes.{whole_number}
 use Rattle.deck_shape.specs.Blocks.{ItemLines}
+use Rattle.deck_shape.specs.Items.{words_behind}
 use Rattle.deck_shape.specs.Lists.{fault_if}
 use Rattle.deck_shape.specs.Numbers.{lesser, numbers_kind, whole_value}
 use Rattle.deck_shape.specs.declared.keyword.Keyword.{Keyword}
 use Rattle.deck_shape.specs.declared.keyword.Keyword.TheVariants.{NCellSites, NSiteTypes, NSites, RepeatCell}
 use Rattle.deck_shape.specs.declared.kind.TheConstants.{TOO_MANY_SITES}
-use Rattle.lattice_deck.specs.Items.{words_behind}
 use Rattle.lattice_deck.specs.declared.forms.TheConstants.{REPEAT}
 use Rattle.lattice_deck.specs.declared.sizes.Sizes.{Sizes}
 
@@ -25,7 +25,7 @@ repeats_of (x ∷ []) = None
 repeats_of (x ∷ y ∷ words) =
     option_and_then (λ nx. option_and_then (λ ny. Some (nx, ny)) (whole_of 18446744073709551615 (y ∷ []))) (whole_of 18446744073709551615 (x ∷ []))
 
--- repeats of a cell of so many sites give more sites than there may be
+-- repeats of a cell of so many sites give more than 65,536 sites, where both are known
 abbrev pub gives_too_many : Option ℕ → Option (ℕ × ℕ) → Bool
 gives_too_many None repeats = false
 gives_too_many (Some sites) None = false
@@ -52,6 +52,7 @@ or_else (Some n) other = Some n
 abbrev pub sites_in : List ItemLines → Option ℕ
 sites_in items = or_else (stated NCellSites MAX_SITES items) (stated NSites MAX_SITES items)
 
+-- the numbers that the lines of a file state
 abbrev pub sizes_in : List ItemLines → Sizes
 sizes_in items = record {
   sites = sites_in items;
@@ -63,7 +64,7 @@ sizes_in items = record {
 abbrev pub AreRepeats : ℕ × ℕ → Type 0
 AreRepeats repeats = (1 ≤ repeats.0) × (1 ≤ repeats.1)
 
--- what is true of the numbers of every file: each is at least 1, and the repeats give no more sites than there may be
+-- what is true of the numbers of every file: each is at least 1, and the repeats give at most 65,536 sites
 pub record IsSizes (sizes : Sizes) : Type 0 where
   pub sites : IfSome sizes.sites (λ n. (1 ≤ n) × (n ≤ MAX_SITES))
   pub types : IfSome sizes.types (λ n. (1 ≤ n) × (n ≤ 1000))

@@ -1,12 +1,10 @@
 ghost use Rattle.std.specs.Prelude.{◌≡◌, IfOk, IfSome, List, ℕ, map};
-ghost use Rattle.std.specs.List.{find};
-ghost use Rattle.std.specs.Option.{option_copied};
 ghost use Rattle.dec_text.specs.Spans.{bytes_at, line_at};
 ghost use Rattle.deck_shape.specs.Blocks.{ItemLines, block_at, item_at};
-ghost use Rattle.deck_shape.specs.Tables.{is_spelled};
-ghost use Rattle.site_rows.specs.FirstFault.{fault_or, first_of_lines, line_fault};
+ghost use Rattle.deck_shape.specs.FirstFault.{fault_or, first_of_lines, line_fault};
+ghost use Rattle.deck_shape.specs.Forms.{form_of};
 ghost use Rattle.lattice_deck.specs.Coordinates.{coordinates_kind as spec_coordinates_kind};
-ghost use Rattle.lattice_deck.specs.Faults.{default_kind, fault_among, first_fault, form_lines, form_of, is_narrow, item_lines, row_count, row_lines, rows_faults, rows_kind, word_kind};
+ghost use Rattle.lattice_deck.specs.Faults.{default_kind, fault_among, first_fault, form_lines, is_narrow, item_lines, row_count, row_lines, rows_faults, rows_kind, word_kind};
 ghost use Rattle.lattice_deck.specs.Forms.{IsForm};
 ghost use Rattle.lattice_deck.specs.declared.forms.Form.TheVariants.{Joins};
 ghost use Rattle.lattice_deck.specs.Joins.{join_kind};
@@ -14,36 +12,26 @@ ghost use Rattle.lattice_deck.specs.Sizes.{IsSizes};
 ghost use Rattle.lattice_deck.specs.declared.forms.TheConstants.{FORMS as ENTRIES};
 
 use crate::coordinates::coordinates_kind;
-use crate::forms::{FORMS, Form, RowCount, WordForm};
+use crate::forms::{FORMS, Form, RowCount};
 use crate::joins::{crowds, join_kind};
+use crate::row_faults::site_rows_fault;
 use crate::sizes::{Sizes, repeats_kind, repeats_of, sizes_in};
 use crate::types::type_names_kind;
-use crate::words::{row_words, words_of};
+use crate::words::row_words;
 use dec_text::{Line, Span};
 use deck_shape::kind::{LIST_LENGTH, ROW_COUNT, SELF_NEIGHBOUR, TOO_MANY_NEIGHBOURS};
 use deck_shape::{
     Block, Item, Number, fault_if, has_other_length, lesser, number_kind, numbers_kind,
 };
 use kmc_base::OutOfMemory;
-use site_rows::site_rows_fault;
 use std::alloc::Global;
-
-/// The entry of a word in the table of forms.
-fn entry_of(word: &[u8]) -> Option<&'static WordForm>
-    ensures { option_copied result ≡ find (λ f. is_spelled f.keyword word.now) ENTRIES }
-{
-    FORMS.iter().find(|entry| entry.keyword.spelling() == word)
-}
 
 /// The form of a word.
 fn form_of(word: &[u8]) -> Option<Form>
-    ensures value { result ≡ form_of word.now }
+    ensures value { result ≡ form_of ENTRIES word.now }
     ensures sound { IfSome result IsForm }
 {
-    match entry_of(word) {
-        Some(entry) => Some(entry.form),
-        None => None,
-    }
+    deck_shape::form_of(&FORMS, word)
 }
 
 /// How many rows a word should have, where that is known.
@@ -73,7 +61,7 @@ fn is_narrow(repeats: Option<(u64, u64)>) -> bool
     }
 }
 
-/// The fault of a default lattice: of its constant, of its repeats, or of a site that is its own neighbour.
+/// The fault of a default lattice: of its lattice constant, of its repeats, or of a site that is its own neighbour.
 fn default_kind(bytes: &[u8], words: &[Span]) -> Option<u8>
     ensures { result ≡ default_kind (map (bytes_at bytes.now) words.now) }
 {
@@ -115,7 +103,7 @@ fn word_kind(
     requires form { IsForm form }
     ensures { IfOk result (λ kind. kind ≡ word_kind sizes.now form (item_at bytes.now item.now)) }
 {
-    let words = words_of(item);
+    let words = item.arguments();
     let rows = item.rows.as_slice();
     match form {
         Form::Number(number) => Ok(numbers_kind(number, bytes, words)),

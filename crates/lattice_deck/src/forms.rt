@@ -1,13 +1,13 @@
 //! What the words of the lattice file take as values, as data: the definitions and the reader go by this table.
 
-use deck_shape::{Keyword, Number};
+use deck_shape::{Keyword, Number, WordForm};
 use kmc_base::MAX_SITES;
 use lattice_cell::DefaultLattice;
 
 /// How many rows a word has.
 #[derive(Clone, Copy, Debug, PartialEq, Eq)]
 pub enum RowCount {
-    /// So many.
+    /// This number of rows.
     Exactly(u64),
     /// One for each site that is stated.
     OnePerSite,
@@ -26,35 +26,28 @@ pub enum Form {
     Types,
     /// Rows of two decimals.
     Coordinates(RowCount),
-    /// Rows that join sites of a cell.
+    /// Rows that join two sites of a cell, or of a cell and one beside it.
     Joins,
-    /// A row for each site.
+    /// A row for each site of an explicit lattice.
     SiteRows,
-    /// A lattice that has a name: its constant, which is used for nothing, and its repeats.
+    /// A default lattice: its lattice constant, which is used for nothing, and its repeats.
     Default(DefaultLattice),
 }
 
-/// A word and its form.
-#[derive(Clone, Copy, Debug)]
-pub struct WordForm {
-    pub keyword: Keyword,
-    pub form: Form,
-}
-
-/// A number of sites, in a cell or of a lattice.
+/// A number of sites, of a cell or of a lattice: 1 to 65,536.
 pub const SITE_COUNT: Number = Number::Whole(1, MAX_SITES as u64);
 
-/// A number of types of sites.
+/// A number of site types, from 1 to 1,000.
 pub const TYPE_COUNT: Number = Number::Whole(1, 1000);
 
-/// A number of repeats.
+/// How often a cell is repeated in one direction; the limit on sites bounds it further.
 pub const REPEAT: Number = Number::Whole(1, 18_446_744_073_709_551_615);
 
 /// A whole number that is used for nothing.
 pub const ANY_WHOLE: Number = Number::Whole(0, 18_446_744_073_709_551_615);
 
 /// The forms of the words that have a value.
-pub const FORMS: [WordForm; 13] = [
+pub const FORMS: [WordForm<Form>; 13] = [
     WordForm {
         keyword: Keyword::RectangularPeriodic,
         form: Form::Default(DefaultLattice::Rectangular),

@@ -8,12 +8,11 @@ ghost use Rattle.lattice_deck.specs.Joins.{crowds, edge_of, has_bad_end, is_dash
 ghost use Rattle.lattice_deck.specs.Sizes.{AreRepeats, IsSizes};
 
 use crate::sizes::Sizes;
-use crate::words::row_words;
+use crate::words::{is_no_site, row_words, some_whole};
 use dec_text::{Line, Span};
 use deck_shape::kind::{BAD_EDGE, ROW_FORM, SELF_NEIGHBOUR};
 use kmc_base::OutOfMemory;
 use lattice_cell::{Join, Toward, is_crowded};
-use site_rows::{is_no_site, some_whole};
 use std::alloc::Global;
 
 /// A row of `neighboring_structure`: the two sites of the cell, from 1, and the cell of the second.
@@ -205,7 +204,7 @@ pub(crate) fn joins_of(
     Ok(Some(joins))
 }
 
-/// Some site has more neighbours than it may have, where the number of sites, the repeats and all rows are known.
+/// Some site has more than 32 neighbours, where the number of sites, the repeats and all rows are known.
 pub(crate) fn crowds(
     alloc: Global,
     sizes: &Sizes,

@@ -31,7 +31,7 @@ fn read_block(alloc: Global, bytes: &[u8], block: &Block) -> Result<LatticePart,
 /// The values of a lattice file, or its first fault of a value.
 ///
 /// The faults are those of `kind` from `NOT_NUMBER` to `TOO_MANY_SITES`; of the kinds that hold at the first faulty line
-/// the least is the fault. A line that goes by a number of another line has no fault by it where that number has one. A
+/// the least is the fault. A fault that depends on a number of another line is found where that number has none itself. A
 /// type word that is no type is no fault here: its site has type 0 in the graph.
 pub fn read(alloc: Global, bytes: &[u8], shape: &Shape) -> Result<LatticePart, DeckFault>
     requires { IsShapeOf Lattice bytes.now shape.now }

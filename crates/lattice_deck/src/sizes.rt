@@ -4,18 +4,17 @@ ghost use Rattle.deck_shape.specs.Blocks.{block_at};
 ghost use Rattle.lattice_deck.specs.Sizes.{IsSizes, gives_too_many, repeats_kind, repeats_of, sites_in, sizes_in, sound_repeats, stated, whole_of};
 
 use crate::forms::REPEAT;
-use crate::words::words_behind;
 use dec_text::Span;
 use deck_shape::kind::TOO_MANY_SITES;
 use deck_shape::{Block, Keyword, fault_if, lesser, numbers_kind, whole_value};
 use kmc_base::MAX_SITES;
 
-/// The numbers of a lattice file that other lines go by; `None` where the line that states one has a fault.
+/// The numbers of a lattice file that other lines depend on; `None` where the line that states one has a fault.
 #[derive(Clone, Copy, Debug)]
 pub(crate) struct Sizes {
     /// How many sites a cell or an explicit lattice has.
     pub(crate) sites: Option<u64>,
-    /// How many types of sites there are.
+    /// How many site types there are.
     pub(crate) types: Option<u64>,
     /// How often a cell is repeated in its two directions.
     pub(crate) repeats: Option<(u64, u64)>,
@@ -44,7 +43,7 @@ pub(crate) fn repeats_of(bytes: &[u8], words: &[Span]) -> Option<(u64, u64)>
     Some((nx, ny))
 }
 
-/// So many repeats of a cell of so many sites give more sites than there may be.
+/// So many repeats of a cell of so many sites give more than 65,536 sites.
 fn is_past_limit(nx: u64, ny: u64, sites: u64) -> bool
     ensures { result ≡ nat_lt MAX_SITES (nx * ny * sites) }
 {
@@ -55,7 +54,7 @@ fn is_past_limit(nx: u64, ny: u64, sites: u64) -> bool
     }
 }
 
-/// Repeats of a cell of so many sites give more sites than there may be.
+/// Repeats of a cell of so many sites give more than 65,536 sites, where both are known.
 fn gives_too_many(sites: Option<u64>, repeats: Option<(u64, u64)>) -> bool
     ensures { result ≡ gives_too_many sites repeats }
 {
@@ -92,7 +91,7 @@ fn sound_repeats(sites: Option<u64>, bytes: &[u8], words: &[Span]) -> Option<(u6
 fn stated(block: &Block, bytes: &[u8], keyword: Keyword, most: u64) -> Option<u64>
     ensures { result ≡ stated keyword most (block_at bytes.now block.now).items }
 {
-    match words_behind(block, bytes, keyword) {
+    match block.words_behind(bytes, keyword) {
         Some(words) => whole_of(most, bytes, words),
         None => None,
     }
@@ -112,7 +111,7 @@ fn sites_in(block: &Block, bytes: &[u8]) -> Option<u64>
 fn repeats_in(block: &Block, bytes: &[u8]) -> Option<(u64, u64)>
     ensures { result ≡ (sizes_in (block_at bytes.now block.now).items).repeats }
 {
-    match words_behind(block, bytes, Keyword::RepeatCell) {
+    match block.words_behind(bytes, Keyword::RepeatCell) {
         Some(words) => sound_repeats(sites_in(block, bytes), bytes, words),
         None => None,
     }

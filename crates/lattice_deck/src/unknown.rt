@@ -1,10 +1,25 @@
-ghost use Rattle.std.specs.Prelude.{◌≡◌};
+//! Type words that are no type.
+
+ghost use Rattle.std.specs.Prelude.{◌≡◌, ◌==◌, map};
+ghost use Rattle.std.specs.List.{find};
+ghost use Rattle.std.specs.Option.{option_copied};
+ghost use Rattle.dec_text.specs.Spans.{bytes_at};
 ghost use Rattle.lattice_deck.specs.Parts.{values_at};
-ghost use Rattle.lattice_deck.specs.Types.{unknown_type};
+ghost use Rattle.lattice_deck.specs.Types.{type_of, unknown_type};
 
 use crate::part::LatticePart;
+use crate::types::type_of;
+use deck_shape::Name;
 use deck_shape::kind::UNKNOWN_TYPE;
-use site_rows::first_unknown;
+
+/// The first type word that is no number of a type and no name of one.
+fn first_unknown<'a>(bytes: &[u8], names: &[Vec<u8>], words: &'a [Name]) -> Option<&'a Name>
+    ensures { option_copied result ≡ find (λ word. type_of (map (λ name. name.items) names.now) (bytes_at bytes.now word.span) == 0) words.now }
+{
+    words
+        .iter()
+        .find(|word| type_of(names, word.span.bytes(bytes)) == 0)
+}
 
 /// The first type word of a lattice file that is no number of a type and no name of one, by its line and its kind.
 pub fn unknown_type(bytes: &[u8], part: &LatticePart) -> Option<(u32, u8)>

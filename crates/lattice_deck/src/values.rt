@@ -1,32 +1,32 @@
 ghost use Rattle.std.specs.Prelude.{◌≡◌, ◌*◌, ◌≤◌, ℕ, List, All, IfOk, None, length, map, unwrap_or};
 ghost use Rattle.dec_text.specs.Spans.{bytes_at, line_at, run_at};
-ghost use Rattle.deck_shape.specs.Blocks.{block_at, item_at};
+ghost use Rattle.deck_shape.specs.Blocks.{block_at};
 ghost use Rattle.deck_shape.specs.Names.{name_at};
 ghost use Rattle.kmc_base.specs.declared.ids.TheConstants.{MAX_SITES};
 ghost use Rattle.lattice_cell.specs.Cells.{IsInCell};
 ghost use Rattle.lattice_cell.specs.Default.{default_lattice};
 ghost use Rattle.lattice_cell.specs.Periodic.{neighbour_lists, periodic_lattice};
 ghost use Rattle.lattice_core.specs.Fault.{first_fault};
-ghost use Rattle.site_rows.specs.Listed.{listed_lattice};
-ghost use Rattle.site_rows.specs.SiteRows.{rows_of};
-ghost use Rattle.site_rows.specs.Types.{type_of as spec_type_of};
+ghost use Rattle.lattice_deck.specs.Listed.{listed_lattice};
+ghost use Rattle.lattice_deck.specs.SiteRows.{rows_of};
+ghost use Rattle.lattice_deck.specs.Types.{type_of};
 ghost use Rattle.lattice_deck.specs.Faultless.{AreFaultless, HasDefault, IsCell, IsDefault, IsExplicit};
-ghost use Rattle.lattice_deck.specs.Parts.{behind_constant, cell_of, cell_values, default_of, default_values, explicit_values, names_on, type_on, values_at, values_of};
-ghost use Rattle.lattice_deck.specs.Views.{name_of};
+ghost use Rattle.lattice_deck.specs.Parts.{behind_constant, cell_of, cell_values, default_of, default_values, explicit_values, type_on, values_at, values_of};
 
 use crate::joins::joins_of;
+use crate::listed::listed_graph;
 use crate::part::LatticePart;
 use crate::sizes::{Sizes, repeats_of, sizes_in};
-use crate::words::{list_in, rows_in, words_behind};
+use crate::types::type_of;
+use crate::words::rows_in;
 use dec_text::{Line, Span};
-use deck_shape::{Block, BlockKind, Item, Keyword, Name};
+use deck_shape::{Block, BlockKind, Keyword, Name};
 use kmc_base::{Items, OutOfMemory};
 use lattice_cell::{DefaultLattice, Join, expand_default, expand_periodic};
 use lattice_core::{Graph, GraphFault};
-use site_rows::{listed_graph, type_of};
 use std::alloc::Global;
 
-/// The one fault of neighbours that have none.
+/// The one fault of a lattice whose neighbours have none: want of memory.
 fn want_of_memory(fault: GraphFault) -> OutOfMemory
     requires { fault ≡ GraphFault.OutOfMemory }
 {
@@ -49,7 +49,7 @@ fn named_graph(alloc: Global, kind: DefaultLattice, nx: u64, ny: u64) -> Result<
     }
 }
 
-/// The words behind the constant of a default lattice.
+/// The words behind the lattice constant of a default lattice.
 fn behind_constant(words: &[Span]) -> &[Span]
     ensures { (text : List ℕ) → map (bytes_at text) result.now ≡ behind_constant (map (bytes_at text) words.now) }
 {
@@ -80,10 +80,10 @@ fn default_graph(alloc: Global, block: &Block, bytes: &[u8]) -> Result<Graph, Ou
     requires { HasDefault (block_at bytes.now block.now).items }
     ensures { IfOk result (λ g. g ≡ (default_values (block_at bytes.now block.now).items).lattice) }
 {
-    match words_behind(block, bytes, Keyword::RectangularPeriodic) {
+    match block.words_behind(bytes, Keyword::RectangularPeriodic) {
         Some(words) => default_of(alloc, DefaultLattice::Rectangular, bytes, words),
         None => {
-            let words = list_in(block, bytes, Keyword::HexagonalPeriodic);
+            let words = block.list_in(bytes, Keyword::HexagonalPeriodic);
             default_of(alloc, DefaultLattice::Hexagonal, bytes, words)
         }
     }
@@ -127,15 +127,15 @@ fn repeated_graph(
 fn types_of(
     alloc: Global,
     bytes: &[u8],
-    names: &[Span],
+    names: &[Vec<u8>],
     words: &[Span],
 ) -> Result<Vec<u16>, OutOfMemory>
     requires { length names.now ≤ 1000 }
-    ensures { IfOk result (λ types. types.items ≡ map (spec_type_of (map (bytes_at bytes.now) names.now)) (map (bytes_at bytes.now) words.now)) }
+    ensures { IfOk result (λ types. types.items ≡ map (type_of (map (λ name. name.items) names.now)) (map (bytes_at bytes.now) words.now)) }
 {
     let mut types = Vec::new(alloc);
     for word in words {
-        types.push(type_of(bytes, names, word.bytes(bytes)))?;
+        types.push(type_of(names, word.bytes(bytes)) as u16)?;
     }
     Ok(types)
 }
@@ -145,12 +145,12 @@ fn cell_graph(
     alloc: Global,
     sizes: &Sizes,
     bytes: &[u8],
-    names: &[Span],
+    names: &[Vec<u8>],
     types: &[Span],
     rows: &[Line],
 ) -> Result<Graph, OutOfMemory>
-    requires { IsCell sizes.now (map (bytes_at bytes.now) names.now) (map (bytes_at bytes.now) types.now) (map (line_at bytes.now) rows.now) }
-    ensures { IfOk result (λ g. g ≡ cell_of sizes.now (map (bytes_at bytes.now) names.now) (map (bytes_at bytes.now) types.now) (map (line_at bytes.now) rows.now)) }
+    requires { IsCell sizes.now (map (λ name. name.items) names.now) (map (bytes_at bytes.now) types.now) (map (line_at bytes.now) rows.now) }
+    ensures { IfOk result (λ g. g ≡ cell_of sizes.now (map (λ name. name.items) names.now) (map (bytes_at bytes.now) types.now) (map (line_at bytes.now) rows.now)) }
 {
     let (Some(sites), Some((nx, ny))) = (sizes.sites, sizes.repeats) else {
         unreachable!();
@@ -160,24 +160,6 @@ fn cell_graph(
     };
     let types = types_of(alloc, bytes, names, types)?;
     repeated_graph(alloc, nx as u32, ny as u32, &types, &joins)
-}
-
-/// Words of a line, as names.
-fn names_of(alloc: Global, words: &[Span], line: u32) -> Result<Vec<Name>, OutOfMemory>
-    ensures { IfOk result (λ names. names.items ≡ map (name_of line) words.now) }
-{
-    let mut names = Vec::new(alloc);
-    for span in words {
-        names.push(Name { span: *span, line })?;
-    }
-    Ok(names)
-}
-
-/// The names on a line.
-fn names_on(alloc: Global, item: &Item) -> Result<Vec<Name>, OutOfMemory>
-    ensures { IfOk result (λ names. (text : List ℕ) → map (name_at text) names.items ≡ names_on (item_at text item.now)) }
-{
-    names_of(alloc, item.arguments(), item.line.number)
 }
 
 /// The bytes of words.
@@ -191,30 +173,20 @@ fn copies_of(alloc: Global, bytes: &[u8], words: &[Span]) -> Result<Vec<Vec<u8>>
     Ok(copies)
 }
 
-/// The type words of a cell.
-fn cell_words(alloc: Global, block: &Block, bytes: &[u8]) -> Result<Vec<Name>, OutOfMemory>
-    ensures { IfOk result (λ names. map (name_at bytes.now) names.items ≡ (cell_values (block_at bytes.now block.now).items).type_words) }
-{
-    match block.item(bytes, Keyword::SiteTypes) {
-        Some(item) => names_on(alloc, item),
-        None => Ok(Vec::new(alloc)),
-    }
-}
-
 /// The values of a file with a periodic cell.
 fn cell_part(alloc: Global, block: &Block, bytes: &[u8]) -> Result<LatticePart, OutOfMemory>
     requires { AreFaultless BlockKind.PeriodicCell (block_at bytes.now block.now).items }
     ensures { IfOk result (λ part. values_at bytes.now part ≡ cell_values (block_at bytes.now block.now).items) }
 {
     let sizes = sizes_in(block, bytes);
-    let names = list_in(block, bytes, Keyword::SiteTypeNames);
-    let types = list_in(block, bytes, Keyword::SiteTypes);
+    let names = copies_of(alloc, bytes, block.list_in(bytes, Keyword::SiteTypeNames))?;
+    let types = block.list_in(bytes, Keyword::SiteTypes);
     let rows = rows_in(block, bytes, Keyword::NeighboringStructure);
-    let graph = cell_graph(alloc, &sizes, bytes, names, types, rows)?;
+    let graph = cell_graph(alloc, &sizes, bytes, &names, types, rows)?;
     Ok(LatticePart {
         graph,
-        type_names: Items::new(copies_of(alloc, bytes, names)?),
-        type_words: Items::new(cell_words(alloc, block, bytes)?),
+        type_names: Items::new(names),
+        type_words: Items::new(block.names_in(alloc, bytes, Keyword::SiteTypes)?),
     })
 }
 
@@ -251,16 +223,16 @@ fn types_on(alloc: Global, rows: &[Line]) -> Result<Vec<Name>, OutOfMemory>
     Ok(names)
 }
 
-/// The lattice of a list of sites.
+/// The lattice of an explicit list of sites.
 fn explicit_graph(
     alloc: Global,
     sizes: &Sizes,
     bytes: &[u8],
-    names: &[Span],
+    names: &[Vec<u8>],
     rows: &[Line],
 ) -> Result<Graph, OutOfMemory>
-    requires { IsExplicit sizes.now (map (bytes_at bytes.now) names.now) (map (line_at bytes.now) rows.now) }
-    ensures { IfOk result (λ g. g ≡ listed_lattice (unwrap_or sizes.now.sites 0) (map (bytes_at bytes.now) names.now) (rows_of (map (line_at bytes.now) rows.now))) }
+    requires { IsExplicit sizes.now (map (λ name. name.items) names.now) (map (line_at bytes.now) rows.now) }
+    ensures { IfOk result (λ g. g ≡ listed_lattice (unwrap_or sizes.now.sites 0) (map (λ name. name.items) names.now) (rows_of (map (line_at bytes.now) rows.now))) }
 {
     match sizes.sites {
         Some(sites) => listed_graph(alloc, bytes, sites as u32, names, rows),
@@ -274,12 +246,12 @@ fn explicit_part(alloc: Global, block: &Block, bytes: &[u8]) -> Result<LatticePa
     ensures { IfOk result (λ part. values_at bytes.now part ≡ explicit_values (block_at bytes.now block.now).items) }
 {
     let sizes = sizes_in(block, bytes);
-    let names = list_in(block, bytes, Keyword::SiteTypeNames);
+    let names = copies_of(alloc, bytes, block.list_in(bytes, Keyword::SiteTypeNames))?;
     let rows = rows_in(block, bytes, Keyword::LatticeStructure);
-    let graph = explicit_graph(alloc, &sizes, bytes, names, rows)?;
+    let graph = explicit_graph(alloc, &sizes, bytes, &names, rows)?;
     Ok(LatticePart {
         graph,
-        type_names: Items::new(copies_of(alloc, bytes, names)?),
+        type_names: Items::new(names),
         type_words: Items::new(types_on(alloc, rows)?),
     })
 }

@@ -1,6 +1,6 @@
 mod FaultLines
 mod FormTable
 mod Maps
-mod NameLists
 mod SamplingWords
 mod SoundLists
+mod Stated

@@ -1,12 +1,8 @@
 -- searches of the values of a list
-use Rattle.std.proofs.Common.{◌≡◌, ◌∙◌, sym, ℕ, ◌+◌, ◌<◌, append_assoc, add-one, drop, get_or, length, ◌||◌, ◌++◌, Bor, Option, None, Some, is_some, Bool, true, false, cond, List, [], ◌∷◌, map, refl, ap, IfSome}
+use Rattle.std.proofs.Common.{◌≡◌, ◌∙◌, sym, ℕ, ◌+◌, ◌<◌, append_assoc, add-one, drop, get_or, length, ◌||◌, ◌++◌, Option, None, Some, is_some, Bool, true, false, cond, List, [], ◌∷◌, map, refl, ap}
 use Rattle.std.proofs.Math.Seq.{drop-cons}
 use Rattle.std.specs.List.{AllByRecursion, find, list_any}
-use Rattle.std.specs.Option.{option_copied, option_map}
-
-pub list_any-map : {X Y : Type 0} (p : X → Bool) (h : Y → X) (ys : List Y) → list_any p (map h ys) ≡ list_any (λ y. p (h y)) ys
-list_any-map p h [] = refl
-list_any-map p h (y ∷ ys) = ap (λ b. p (h y) || b) (list_any-map p h ys)
+use Rattle.std.specs.Option.{option_map}
 
 -- a value that passes a test is found where some value passes it
 pub is_some-find : {X : Type 0} (p : X → Bool) (xs : List X) → is_some (find p xs) ≡ list_any p xs
@@ -16,15 +12,6 @@ is_some-find p (x ∷ xs) = elim (p x) as (λ b. is_some (cond b (Some x) (find 
 pub is_some-map : {X Y : Type 0} (h : X → Y) (r : Option X) → is_some r ≡ is_some (option_map h r)
 is_some-map h None = refl
 is_some-map h (Some x) = refl
-
-pub is_some-copied : {X : Type 0} (r : Option (Bor X)) → is_some r ≡ is_some (option_copied r)
-is_some-copied None = refl
-is_some-copied (Some x) = refl
-
--- what holds of each member holds of the one that is found
-pub IfSome-find : {X : Type 0} (P : X → Type 0) (p : X → Bool) (xs : List X) → AllByRecursion P xs → IfSome (find p xs) P
-IfSome-find P p [] all = tt
-IfSome-find P p (x ∷ xs) all = elim (p x) as (λ b. IfSome (cond b (Some x) (find p xs)) P) [ true ↦ all.0 | false ↦ IfSome-find P p xs all.1 ]
 
 pub all-pushed : {X : Type 0} (P : X → Type 0) (xs : List X) (x : X) → AllByRecursion P xs → P x → AllByRecursion P (xs ++ x ∷ [])
 all-pushed P [] x all here = (here, tt)

@@ -1,34 +1,38 @@
 -- the lists of a file without faults
-use Rattle.std.proofs.Common.{◌≡◌, ◌∙◌, ap, sym, subst, ℕ, ◌≤◌, ◌==◌, ◌&&◌, ◌||◌, Bool, true, false, not, cond, List, [], ◌∷◌, length, map, Option, None, Some, IfSome, Result, Ok, Err, is_some, is_none, refl, arith, if◌then◌else◌, nat_le, nat_lt, ⊎_elim}
+use Rattle.std.proofs.Common.{◌≡◌, ◌∙◌, ap, sym, subst, ℕ, ◌≤◌, ◌==◌, ◌&&◌, ◌||◌, Bool, true, false, not, cond, List, [], ◌∷◌, length, map, Option, None, Some, IfSome, Result, Ok, Err, is_some, is_none, refl, arith, if◌then◌else◌, nat_le, nat_lt, unwrap_or, ⊎_elim}
 use Rattle.std.specs.List.{AllByRecursion, find, list_any}
 use Rattle.std.specs.Option.{option_map, option_map_or}
 use Rattle.std.specs.Cmp.Lexicographic.{same_text}
 use Rattle.std.proofs.lemmas.Bool.{cases_Bool}
 use Rattle.std.proofs.lemmas.List.{length-map}
+use Rattle.std.proofs.lemmas.Simd.{map-map}
 use Rattle.std.proofs.lemmas.Bool.Decides.{nat_tests}
-use Rattle.dec_text.specs.Lines.{Run}
 use Rattle.dec_text.specs.Wholes.{whole_number}
 use Rattle.dec_text.specs.declared.faults.NotWhole.{NotWhole}
 use Rattle.deck_shape.specs.Blocks.{BlockLines, ItemLines, has_keyword, stands}
+use Rattle.deck_shape.specs.Forms.{form_of}
+use Rattle.deck_shape.specs.Items.{names_on, words_of}
 use Rattle.deck_shape.specs.Keywords.{spelling}
 use Rattle.deck_shape.specs.LineWords.{arguments_of, head_of}
+use Rattle.deck_shape.specs.Names.{on_line}
 use Rattle.deck_shape.specs.declared.keyword.Keyword.{Keyword}
 use Rattle.deck_shape.specs.declared.keyword.Keyword.TheVariants.{GasEnergies, GasMolarFracs, GasSpecsNames, NGasSpecies, NSurfSpecies, SurfSpecsDent, SurfSpecsNames}
 use Rattle.deck_shape.specs.declared.kind.TheConstants.{BAD_NAME, LIST_LENGTH, REPEATED_NAME}
-use Rattle.sim_deck.proofs.Maps.{IfSome-find, is_some-find}
-use Rattle.sim_deck.proofs.NameLists.{on_line}
-use Rattle.sim_deck.specs.Faults.{closing_kind, counts_in, fault_among, fault_or, first_fault, form_kind, form_of, is_absent, item_kind, sound_count, words_of}
+use Rattle.deck_shape.specs.FirstFault.{fault_or}
+use Rattle.deck_shape.proofs.Maps.{IfSome-find}
+use Rattle.sim_deck.proofs.Maps.{is_some-find}
+use Rattle.sim_deck.specs.Faults.{closing_kind, counts_in, fault_among, first_fault, form_kind, is_absent, item_kind, sound_count}
 use Rattle.deck_shape.specs.Lists.{fault_if, has_other_length, names_repeat}
 use Rattle.sim_deck.specs.Lists.{is_bad_name, Counts, count_of, has_members}
 use Rattle.deck_shape.specs.Numbers.{is_whole_within, lesser, numbers_kind, whole_value}
 use Rattle.sim_deck.specs.Soundness.{AreNames}
-use Rattle.sim_deck.specs.Values.{SimValues, dentates_of, energy_of, fraction_of, names_on, values_of}
+use Rattle.sim_deck.specs.Values.{SimValues, dentates_of, energy_of, fraction_of, values_of}
 use Rattle.sim_deck.specs.declared.forms.Count.{Count}
 use Rattle.sim_deck.specs.declared.forms.Count.TheVariants.{Gas, Surface}
 use Rattle.sim_deck.specs.declared.forms.Form.{Form}
 use Rattle.deck_shape.specs.declared.number.Number.{Number as Sort}
 use Rattle.sim_deck.specs.declared.forms.Form.TheVariants.{Names, Number, Numbers}
-use Rattle.sim_deck.specs.declared.forms.TheConstants.{DENTATES, ENERGY, FRACTION, SPECIES_COUNT}
+use Rattle.sim_deck.specs.declared.forms.TheConstants.{DENTATES, ENERGY, FORMS, FRACTION, SPECIES_COUNT}
 
 -- what follows where nothing is the fault
 
@@ -59,7 +63,7 @@ some_of : (a b : ℕ) (t : Bool) → (if t then Some a else Some b) ≡ None →
 some_of a b true e = cc
 some_of a b false e = cc
 
-neither : (a b : Option ℕ) → lesser a b ≡ None → (a ≡ None) × (b ≡ None)
+pub neither : (a b : Option ℕ) → lesser a b ≡ None → (a ≡ None) × (b ≡ None)
 neither None b e = (refl, e)
 neither (Some a) None e = absurd cc
 neither (Some a) (Some b) e = absurd (some_of a b (nat_le a b) e)
@@ -82,11 +86,11 @@ passes_found p (x ∷ xs) =
     (λ no. subst (λ b. IfSome (cond b (Some x) (find p xs)) (λ y. p y ≡ true)) (sym no) (passes_found p xs))
     (cases_Bool (p x))
 
-kind_at : (counts : Counts) (item : ItemLines) (keyword : Keyword) (form : Form) → form_of (spelling keyword) ≡ Some form → has_keyword keyword item ≡ true
+kind_at : (counts : Counts) (item : ItemLines) (keyword : Keyword) (form : Form) → form_of FORMS (spelling keyword) ≡ Some form → has_keyword keyword item ≡ true
     → item_kind counts item ≡ form_kind counts form (words_of item)
 kind_at counts item keyword form known here =
     let head : spelling keyword ≡ head_of item.line = same_text (spelling keyword) (head_of item.line) (sym here) in
-    ap (λ f. option_map_or (λ form. form_kind counts form (words_of item)) f None) (ap form_of (sym head) ∙ known)
+    ap (λ f. option_map_or (λ form. form_kind counts form (words_of item)) f None) (ap (form_of FORMS) (sym head) ∙ known)
 
 both_of : {X : Type 0} (P Q R : X → Type 0) → ((x : X) → P x → Q x → R x) → (r : Option X) → IfSome r P → IfSome r Q → IfSome r R
 both_of P Q R gives None p q = tt
@@ -94,7 +98,7 @@ both_of P Q R gives (Some x) p q = gives x p q
 
 -- the words behind a keyword have no fault
 pub no_fault_behind : (counts : Counts) (items : List ItemLines) (closing : Option (ℕ × ℕ)) (keyword : Keyword) (form : Form)
-    → form_of (spelling keyword) ≡ Some form → fault_among counts items closing ≡ None
+    → form_of FORMS (spelling keyword) ≡ Some form → fault_among counts items closing ≡ None
     → IfSome (find (has_keyword keyword) items) (λ item. form_kind counts form (words_of item) ≡ None)
 no_fault_behind counts items closing keyword form known e =
     both_of (λ item. item_kind counts item ≡ None) (λ item. has_keyword keyword item ≡ true) (λ item. form_kind counts form (words_of item) ≡ None)
@@ -150,7 +154,7 @@ not_both false e = refl
 
 -- a list that has no fault has the stated length
 abbrev list_of : Option ItemLines → List (List ℕ)
-list_of r = option_map_or (λ words. words) (option_map words_of r) []
+list_of r = unwrap_or (option_map words_of r) []
 
 length_of : (count : ℕ) (r : Option ItemLines) → IfSome r (λ item. has_other_length (Some count) (length (words_of item)) ≡ false)
     → (nat_lt 0 count && not (is_some r)) ≡ false → length (list_of r) ≡ count
@@ -188,13 +192,9 @@ differ_in counts count (Some item) none =
     let both = neither _ _ (neither _ _ none).1 in
     (holds_not (names_repeat (words_of item)) REPEATED_NAME both.0, holds_not (list_any is_bad_name (words_of item)) BAD_NAME both.1)
 
-names_words : (line : ℕ) (words : List Run) → map (λ name. name.word.bytes) (map (on_line line) words) ≡ map (λ word. word.bytes) words
-names_words line [] = refl
-names_words line (word ∷ words) = ap (λ names. word.bytes ∷ names) (names_words line words)
-
 names_bytes : (r : Option ItemLines) → map (λ name. name.word.bytes) (option_map_or names_on r []) ≡ list_of r
 names_bytes None = refl
-names_bytes (Some item) = names_words item.line.number (arguments_of item.line)
+names_bytes (Some item) = map-map (λ name. name.word.bytes) (on_line item.line.number) (arguments_of item.line)
 
 names_count : (r : Option ItemLines) → length (option_map_or names_on r []) ≡ length (list_of r)
 names_count r = sym (length-map (option_map_or names_on r []) (λ name. name.word.bytes)) ∙ ap length (names_bytes r)
@@ -240,7 +240,7 @@ are_there counts items none =
 
 -- a list of this form has the stated length
 counted : (counts : Counts) (items : List ItemLines) (closing : Option (ℕ × ℕ)) (keyword : Keyword) (form : Form) (count : Count) (n : ℕ)
-    → form_of (spelling keyword) ≡ Some form → fault_among counts items closing ≡ None → count_of counts count ≡ Some n
+    → form_of FORMS (spelling keyword) ≡ Some form → fault_among counts items closing ≡ None → count_of counts count ≡ Some n
     → is_absent counts items (record { keyword = keyword; count = count }) ≡ false
     → ((item : ItemLines) → IsKindless counts form item → IsLong n item)
     → length (list_of (find (has_keyword keyword) items)) ≡ n

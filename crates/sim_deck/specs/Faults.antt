@@ -1,11 +1,14 @@
 -- The faults of the values of a simulation file: which kinds hold at a line, and which fault is the first.
-use Rattle.std.specs.Prelude.{ℕ, ◌&&◌, Bool, false, not, List, [], ◌∷◌, length, map, Option, None, Some, find, if◌then◌else◌, codes, is_none}
+use Rattle.std.specs.Prelude.{ℕ, ◌&&◌, Bool, false, not, List, [], ◌∷◌, length, Option, None, Some, if◌then◌else◌, codes, is_none}
 use Rattle.std.specs.List.{list_any}
 use Rattle.std.specs.Option.{option_map, option_map_or}
 use Rattle.dec_text.specs.Wholes.{whole_number}
-use Rattle.deck_shape.specs.Blocks.{BlockLines, ItemLines, has_keyword, stands}
-use Rattle.deck_shape.specs.LineWords.{arguments_of, head_of}
-use Rattle.deck_shape.specs.Tables.{is_spelled, same_word}
+use Rattle.deck_shape.specs.Blocks.{BlockLines, ItemLines, stands}
+use Rattle.deck_shape.specs.FirstFault.{fault_or, line_fault}
+use Rattle.deck_shape.specs.Forms.{form_of}
+use Rattle.deck_shape.specs.Items.{words_behind, words_of}
+use Rattle.deck_shape.specs.LineWords.{head_of}
+use Rattle.deck_shape.specs.Tables.{same_word}
 use Rattle.deck_shape.specs.declared.keyword.Keyword.{Keyword}
 use Rattle.deck_shape.specs.declared.keyword.Keyword.TheVariants.{NGasSpecies, NSurfSpecies}
 use Rattle.deck_shape.specs.declared.kind.TheConstants.{LIST_LENGTH}
@@ -18,23 +21,11 @@ use Rattle.sim_deck.specs.declared.forms.Form.TheVariants.{Number, NumberOrInfin
 use Rattle.sim_deck.specs.declared.forms.NeededList.{NeededList}
 use Rattle.sim_deck.specs.declared.forms.TheConstants.{FORMS, MOST_SPECIES, NEEDED_LISTS, SPECIES_COUNT}
 
--- the bytes of the words behind the keyword of a line
-abbrev pub words_of : ItemLines → List (List ℕ)
-words_of item = map (λ word. word.bytes) (arguments_of item.line)
-
--- the words behind a keyword of the file, where the keyword stands
-abbrev pub words_behind : Keyword → List ItemLines → Option (List (List ℕ))
-words_behind keyword items = option_map words_of (find (has_keyword keyword) items)
-
 -- the words are `infinity` alone
 abbrev pub is_infinity : List (List ℕ) → Bool
 is_infinity [] = false
 is_infinity (word ∷ []) = same_word (codes "infinity") word
 is_infinity (word ∷ next ∷ words) = false
-
--- the form of a word
-abbrev pub form_of : List ℕ → Option Form
-form_of word = option_map (λ f. f.form) (find (λ f. is_spelled f.keyword word) FORMS)
 
 -- the fault of the words behind a keyword of this form: the least kind that holds
 abbrev pub form_kind : Counts → Form → List (List ℕ) → Option ℕ
@@ -48,7 +39,7 @@ form_kind counts Free words = None
 
 -- the fault of a line
 abbrev pub item_kind : Counts → ItemLines → Option ℕ
-item_kind counts item = option_map_or (λ form. form_kind counts form (words_of item)) (form_of (head_of item.line)) None
+item_kind counts item = option_map_or (λ form. form_kind counts form (words_of item)) (form_of FORMS (head_of item.line)) None
 
 -- a list that should have members is absent
 abbrev pub is_absent : Counts → List ItemLines → NeededList → Bool
@@ -68,19 +59,16 @@ sound_count (word ∷ words) =
 abbrev pub count_in : Keyword → List ItemLines → Option ℕ
 count_in keyword items = option_map_or sound_count (words_behind keyword items) (Some 0)
 
+-- the numbers of gas species and of surface species
 abbrev pub counts_in : List ItemLines → Counts
 counts_in items = record { gas = count_in NGasSpecies items; surface = count_in NSurfSpecies items }
-
--- the first of two faults
-abbrev pub fault_or : Option (ℕ × ℕ) → Option (ℕ × ℕ) → Option (ℕ × ℕ)
-fault_or None later = later
-fault_or (Some fault) later = Some fault
 
 -- the first fault: that of the first line that has one, or else of the closing line
 abbrev pub fault_among : Counts → List ItemLines → Option (ℕ × ℕ) → Option (ℕ × ℕ)
 fault_among counts [] closing = closing
-fault_among counts (item ∷ items) closing = fault_or (option_map (λ kind. (item.line.number, kind)) (item_kind counts item)) (fault_among counts items closing)
+fault_among counts (item ∷ items) closing = fault_or (line_fault item.line.number (item_kind counts item)) (fault_among counts items closing)
 
+-- the first fault of the block of a simulation file: its line and its kind
 abbrev pub first_fault : BlockLines → Option (ℕ × ℕ)
 first_fault block =
     fault_among (counts_in block.items) block.items

@@ -1,8 +1,9 @@
--- The forms of words: those whose numbers can be compared.
+-- The forms of words whose numbers have bounds that a decimal can be compared with.
 use Rattle.deck_shape.specs.Numbers.{IsNumber}
 use Rattle.sim_deck.specs.declared.forms.Form.{Form}
 use Rattle.sim_deck.specs.declared.forms.Form.TheVariants.{Number, NumberOrInfinity, Numbers, Names, Sampling, Free}
 
+-- the bounds of the form's number, if it has one, are such
 abbrev pub IsForm : Form → Type 0
 IsForm (Number number) = IsNumber number
 IsForm (NumberOrInfinity number) = IsNumber number

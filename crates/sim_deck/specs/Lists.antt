@@ -8,16 +8,17 @@ use Rattle.deck_shape.specs.Numbers.{lesser}
 use Rattle.sim_deck.specs.declared.forms.Count.{Count}
 use Rattle.sim_deck.specs.declared.forms.Count.TheVariants.{Gas, Surface}
 
--- how many species there are of each kind; None where that number has a fault
+-- how many gas species and surface species there are; None where that number has a fault
 pub record Counts : Type 0 where
   pub gas : Option ℕ
   pub surface : Option ℕ
 
+-- the number of species of one kind
 abbrev pub count_of : Counts → Count → Option ℕ
 count_of counts Gas = counts.gas
 count_of counts Surface = counts.surface
 
--- the names that no species has: `*` and `&`
+-- the names that no species may have: `*`, which means a vacant site, and `&`, which means any state
 abbrev pub is_bad_name : List ℕ → Bool
 is_bad_name name = same_word name (codes "*") || same_word name (codes "&")
 

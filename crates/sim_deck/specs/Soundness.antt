@@ -1,15 +1,22 @@
 -- What the values of every simulation file without faults keep.
-use Rattle.std.specs.Prelude.{◌≡◌, ℕ, ◌^◌, ◌≤◌, ◌<◌, true, false, List, map, length, unsigned_abs, IfSome}
+use Rattle.std.specs.Prelude.{◌≡◌, ℕ, pos, negsuc, ◌^◌, ◌≤◌, ◌<◌, ◌-◌, true, false, List, None, map, length, unsigned_abs, IfSome}
 use Rattle.std.specs.List.{All, list_any}
+use Rattle.deck_shape.specs.Blocks.{ItemLines}
+use Rattle.deck_shape.specs.Items.{words_behind}
 use Rattle.deck_shape.specs.Lists.{names_repeat}
-use Rattle.deck_shape.specs.Numbers.{is_up_to}
+use Rattle.deck_shape.specs.Numbers.{is_up_to, numbers_kind}
+use Rattle.deck_shape.specs.declared.keyword.Keyword.{Keyword}
+use Rattle.deck_shape.specs.declared.keyword.Keyword.TheVariants.{GasEnergies, GasMolarFracs, MaxSteps, MaxTime, Pressure, RandomSeed, SurfSpecsDent, Temperature}
+use Rattle.deck_shape.specs.declared.number.Number.{Number}
+use Rattle.deck_shape.specs.declared.number.Number.TheVariants.{Whole, Scaled, UpTo}
+use Rattle.sim_deck.specs.Faults.{is_infinity}
 use Rattle.sim_deck.specs.Lists.{is_bad_name}
 use Rattle.sim_deck.specs.Values.{SimValues}
 use Rattle.sim_deck.specs.declared.part.Plan.{Plan}
 use Rattle.sim_deck.specs.declared.part.Sampling.{Sampling}
 use Rattle.sim_deck.specs.declared.part.Sampling.TheVariants.{Off, Event, Time}
 
--- a period is at least 1, and within its limit
+-- a period is from 1 to 2^40 - 1 events, or from 1 to 10^30 as
 abbrev pub IsPeriod : Sampling → Type 0
 IsPeriod Off = Unit {0}
 IsPeriod (Event n) = (1 ≤ n) × (n < 2 ^ 40)
@@ -24,7 +31,7 @@ pub record IsSoundPlan (plan : Plan) : Type 0 where
   pub procstat : IsPeriod plan.procstat
   pub specnum : IsPeriod plan.specnum
 
--- all numbers are in their ranges
+-- all numbers are in their ranges: the temperature in mK, the pressure in bar, energies in neV
 pub record AreInRange (values : SimValues) : Type 0 where
   pub plan : IsSoundPlan values.plan
   pub some_temperature : 1 ≤ values.temperature
@@ -34,7 +41,7 @@ pub record AreInRange (values : SimValues) : Type 0 where
   pub fractions : All (λ n. is_up_to 0 n ≡ true) values.gas_fractions
   pub dentates : All (λ d. (1 ≤ d) × (d ≤ 8)) values.dentates
 
--- the names of a list differ, none is a sign, and there are few
+-- the names of a list differ, none is `*` or `&`, and there are at most 64
 pub record AreNames (names : List (List ℕ)) : Type 0 where
   pub differ : names_repeat names ≡ false
   pub no_sign : list_any is_bad_name names ≡ false
@@ -54,3 +61,23 @@ pub record IsSoundPart (values : SimValues) : Type 0 where
   pub surface : AreNames (map (λ name. name.word.bytes) values.surface)
   pub one_number_each : length values.dentates ≡ length values.surface
   pub dentates : All (λ d. (1 ≤ d) × (d ≤ 8)) values.dentates
+
+-- the words behind a keyword, where it stands, are numbers of this kind
+abbrev pub States : Number → Keyword → List ItemLines → Type 0
+States number keyword items = IfSome (words_behind keyword items) (λ words. numbers_kind number words ≡ None)
+
+-- or `infinity`
+abbrev pub StatesOrInfinity : Number → Keyword → List ItemLines → Type 0
+StatesOrInfinity number keyword items =
+    IfSome (words_behind keyword items) (λ words. is_infinity words ≡ false → numbers_kind number words ≡ None)
+
+-- Each number that a file states is one that the values take: for no stated number a default stands.
+pub record StatesNumbers (items : List ItemLines) : Type 0 where
+  pub seed : States (Whole 0 (2 ^ 64 - 1)) RandomSeed items
+  pub temperature : States (Scaled 3 (pos 1) (pos 10000000)) Temperature items
+  pub pressure : States (UpTo 9) Pressure items
+  pub energies : States (Scaled 9 (negsuc 999999999999) (pos 1000000000000)) GasEnergies items
+  pub fractions : States (UpTo 0) GasMolarFracs items
+  pub dentates : States (Whole 1 8) SurfSpecsDent items
+  pub max_steps : StatesOrInfinity (Whole 0 (2 ^ 40 - 1)) MaxSteps items
+  pub max_time : StatesOrInfinity (Scaled 18 (pos 0) (pos (10 ^ 30))) MaxTime items

@@ -1,14 +1,14 @@
 -- The values of a simulation file: each is that of the one line that has its keyword, or the default.
-use Rattle.std.specs.Prelude.{ℕ, ℤ, pos, negsuc, List, [], ◌∷◌, map, Option, None, Some, Result, Ok, Err, if◌then◌else◌, find, unsigned_abs}
+use Rattle.std.specs.Prelude.{ℕ, ℤ, pos, negsuc, List, [], ◌∷◌, map, Option, None, Some, Result, Ok, Err, if◌then◌else◌, unsigned_abs}
 use Rattle.std.specs.Option.{option_map_or}
 use Rattle.dec_text.specs.Decimals.{Scientific, decimal_of}
 use Rattle.dec_text.specs.Wholes.{whole_number}
-use Rattle.deck_shape.specs.Blocks.{BlockLines, ItemLines, has_keyword}
-use Rattle.deck_shape.specs.LineWords.{arguments_of}
+use Rattle.deck_shape.specs.Blocks.{BlockLines, ItemLines}
+use Rattle.deck_shape.specs.Items.{list_in, names_in, words_behind}
 use Rattle.deck_shape.specs.Names.{NameWord, name_at}
 use Rattle.deck_shape.specs.declared.keyword.Keyword.{Keyword}
 use Rattle.deck_shape.specs.declared.keyword.Keyword.TheVariants.{RandomSeed, Temperature, Pressure, GasSpecsNames, GasEnergies, GasMolarFracs, SurfSpecsNames, SurfSpecsDent, Snapshots, ProcessStatistics, SpeciesNumbers, MaxSteps, MaxTime}
-use Rattle.sim_deck.specs.Faults.{first_fault, is_infinity, words_behind}
+use Rattle.sim_deck.specs.Faults.{first_fault, is_infinity}
 use Rattle.deck_shape.specs.Numbers.{decimal_value, up_to_value, whole_value, zero}
 use Rattle.sim_deck.specs.Samplings.{sampling_of}
 use Rattle.sim_deck.specs.declared.forms.TheConstants.{MOST_EVENTS, MOST_TIME}
@@ -60,40 +60,32 @@ temperature_in items =
 abbrev pub pressure_in : List ItemLines → Scientific
 pressure_in items = option_map_or (λ words. up_to_value 9 (decimal_of (first_word words))) (words_behind Pressure items) zero
 
--- an energy in neV, a fraction, and a number of dentates
+-- an energy in neV, which is written in eV
 abbrev pub energy_of : List ℕ → ℤ
 energy_of word = decimal_value 9 (negsuc 999999999999) (pos 1000000000000) (pos 0) (decimal_of word)
 
+-- a molar fraction, from 0 to 1
 abbrev pub fraction_of : List ℕ → Scientific
 fraction_of word = up_to_value 0 (decimal_of word)
 
+-- a number of dentates, from 1 to 8
 abbrev pub dentates_of : List ℕ → ℕ
 dentates_of word = whole_value 1 8 1 (whole_number word)
-
--- the words of a list, none where it is absent
-abbrev pub list_in : Keyword → List ItemLines → List (List ℕ)
-list_in keyword items = option_map_or (λ words. words) (words_behind keyword items) []
-
--- the names of a list
-abbrev pub names_on : ItemLines → List NameWord
-names_on item = map (λ word. record { word = word; line = item.line.number }) (arguments_of item.line)
-
-abbrev pub names_in : Keyword → List ItemLines → List NameWord
-names_in keyword items = option_map_or names_on (find (has_keyword keyword) items) []
 
 -- when an output is sampled; never, where nothing is said
 abbrev pub sampling_in : Keyword → List ItemLines → Sampling
 sampling_in keyword items = option_map_or sampling_of (words_behind keyword items) Off
 
--- the greatest time, where the words state one
+-- the greatest time in as, where the words state one
 abbrev pub time_limit : List (List ℕ) → Option ℕ
 time_limit words =
     if is_infinity words then None else Some (unsigned_abs (decimal_value 18 (pos 0) MOST_TIME (pos 0) (decimal_of (first_word words))))
 
+-- the greatest time in as; None where the file states none
 abbrev pub time_limit_in : List ItemLines → Option ℕ
 time_limit_in items = option_map_or time_limit (words_behind MaxTime items) None
 
--- the plan of a run. `infinity` as the greatest number of events is that of 40 bits.
+-- the seed of a run, its limits, and when its outputs are sampled; `infinity` events are 2^40 - 1
 abbrev pub plan_of : List ItemLines → Plan
 plan_of items = record {
   seed = whole_in RandomSeed 0 18446744073709551615 0 items;
@@ -104,7 +96,7 @@ plan_of items = record {
   specnum = sampling_in SpeciesNumbers items;
 }
 
--- All the values: energies in neV, the temperature in mK.
+-- all the values: energies in neV, the temperature in mK, the pressure in bar, times in as
 abbrev pub values_of : List ItemLines → SimValues
 values_of items = record {
   plan = plan_of items;

@@ -1,17 +1,17 @@
-ghost use Rattle.std.specs.Prelude.{◌≡◌, ℕ, List, IfOk, IfSome, None, length, map};
-ghost use Rattle.std.specs.List.{find, list_any};
-ghost use Rattle.std.specs.Option.{option_copied, option_map};
+ghost use Rattle.std.specs.Prelude.{◌≡◌, IfOk, IfSome, None, length, map};
+ghost use Rattle.std.specs.List.{list_any};
+ghost use Rattle.std.specs.Option.{option_map};
 ghost use Rattle.dec_text.specs.Spans.{bytes_at};
 ghost use Rattle.deck_shape.specs.Blocks.{block_at, item_at, stands};
+ghost use Rattle.deck_shape.specs.Forms.{form_of};
 ghost use Rattle.deck_shape.specs.Lists.{fault_if, has_other_length};
 ghost use Rattle.deck_shape.specs.Numbers.{IsNumber, lesser, numbers_kind};
-ghost use Rattle.deck_shape.specs.Tables.{is_spelled};
 ghost use Rattle.sim_deck.specs.declared.forms.TheConstants.{FORMS as ENTRIES, NEEDED_LISTS as LISTS};
-ghost use Rattle.sim_deck.specs.Faults.{closing_kind, count_in, counts_in, fault_among, first_fault, form_kind, form_of, is_absent, is_infinity, item_kind, sound_count, words_behind, words_of};
+ghost use Rattle.sim_deck.specs.Faults.{closing_kind, count_in, counts_in, fault_among, first_fault, form_kind, is_absent, is_infinity, item_kind, sound_count};
 ghost use Rattle.sim_deck.specs.Views.{counts_at};
 ghost use Rattle.sim_deck.specs.Forms.{IsForm};
 
-use crate::forms::{FORMS, Form, MOST_SPECIES, NEEDED_LISTS, NeededList, SPECIES_COUNT, WordForm};
+use crate::forms::{FORMS, Form, MOST_SPECIES, NEEDED_LISTS, NeededList, SPECIES_COUNT};
 use crate::lists::{Counts, has_members, names_kind};
 use crate::samplings::sampling_kind;
 use dec_text::Span;
@@ -21,27 +21,6 @@ use deck_shape::{
 };
 use kmc_base::OutOfMemory;
 use std::alloc::Global;
-
-/// The words behind the keyword of a line.
-fn words_of(item: &Item) -> &[Span]
-    ensures { (text : List ℕ) → map (bytes_at text) result.now ≡ words_of (item_at text item.now) }
-{
-    item.arguments()
-}
-
-/// The words behind a keyword of the file, where the keyword stands.
-pub(crate) fn words_behind<'a>(
-    block: &'a Block,
-    bytes: &[u8],
-    keyword: Keyword,
-) -> Option<&'a [Span]>
-    ensures { option_map (λ words. map (bytes_at bytes.now) words.now) result ≡ words_behind keyword (block_at bytes.now block.now).items }
-{
-    match block.item(bytes, keyword) {
-        Some(item) => Some(words_of(item)),
-        None => None,
-    }
-}
 
 /// The words are `infinity` alone.
 pub(crate) fn is_infinity(bytes: &[u8], words: &[Span]) -> bool
@@ -53,22 +32,12 @@ pub(crate) fn is_infinity(bytes: &[u8], words: &[Span]) -> bool
     }
 }
 
-/// The entry of a word in the table of forms.
-fn entry_of(word: &[u8]) -> Option<&'static WordForm>
-    ensures { option_copied result ≡ find (λ f. is_spelled f.keyword word.now) ENTRIES }
-{
-    FORMS.iter().find(|entry| entry.keyword.spelling() == word)
-}
-
 /// The form of a word.
 fn form_of(word: &[u8]) -> Option<Form>
-    ensures value { result ≡ form_of word.now }
+    ensures value { result ≡ form_of ENTRIES word.now }
     ensures sound { IfSome result IsForm }
 {
-    match entry_of(word) {
-        Some(entry) => Some(entry.form),
-        None => None,
-    }
+    deck_shape::form_of(&FORMS, word)
 }
 
 /// The fault of a list of numbers.
@@ -114,7 +83,7 @@ fn item_kind(
     ensures { IfOk result (λ kind. kind ≡ item_kind (counts_at counts.now) (item_at bytes.now item.now)) }
 {
     match form_of(item.head(bytes)) {
-        Some(form) => form_kind(alloc, counts, form, bytes, words_of(item)),
+        Some(form) => form_kind(alloc, counts, form, bytes, item.arguments()),
         None => Ok(None),
     }
 }
@@ -166,7 +135,7 @@ fn sound_count(bytes: &[u8], words: &[Span]) -> Option<u64>
 fn count_in(block: &Block, bytes: &[u8], keyword: Keyword) -> Option<u64>
     ensures { result ≡ count_in keyword (block_at bytes.now block.now).items }
 {
-    match words_behind(block, bytes, keyword) {
+    match block.words_behind(bytes, keyword) {
         Some(words) => sound_count(bytes, words),
         None => Some(0),
     }

@@ -1,17 +1,20 @@
 //! What the words of the simulation file take as values, as data: the definitions and the reader go by these tables.
 
-use deck_shape::{Keyword, Number};
+use deck_shape::{Keyword, Number, WordForm};
 
 /// Which number of species a list has members for.
 #[derive(Clone, Copy, Debug, PartialEq, Eq)]
 pub enum Count {
+    /// `n_gas_species`.
     Gas,
+    /// `n_surf_species`.
     Surface,
 }
 
 /// What a word takes as its arguments.
 #[derive(Clone, Copy, Debug, PartialEq, Eq)]
 pub enum Form {
+    /// A number.
     Number(Number),
     /// A number, or `infinity`.
     NumberOrInfinity(Number),
@@ -25,64 +28,59 @@ pub enum Form {
     Free,
 }
 
-/// A word and its form.
-#[derive(Clone, Copy, Debug)]
-pub struct WordForm {
-    pub keyword: Keyword,
-    pub form: Form,
-}
-
-/// A list that has to be there where there are species of its kind.
+/// A list that is required where there are species of its kind.
 #[derive(Clone, Copy, Debug)]
 pub struct NeededList {
+    /// The word of the list.
     pub keyword: Keyword,
+    /// Which species it has a member for.
     pub count: Count,
 }
 
-/// The greatest number of events.
+/// The greatest number of events, 2^40 - 1, which is that of `infinity` too.
 pub const MOST_EVENTS: u64 = 1_099_511_627_775;
 
-/// The greatest time, in as.
+/// The greatest time in as: 10^30 as are 10^12 s.
 pub const MOST_TIME: i128 = 1_000_000_000_000_000_000_000_000_000_000;
 
-/// The greatest number of species of a kind.
+/// The greatest number of gas species, and of surface species.
 pub const MOST_SPECIES: u64 = 64;
 
 /// A number of species.
 pub const SPECIES_COUNT: Number = Number::Whole(0, 64);
 
-/// A temperature, in mK.
+/// A temperature in K, kept in mK: from 1 mK to 10,000 K.
 pub const TEMPERATURE: Number = Number::Scaled(3, 1, 10_000_000);
 
-/// A pressure, in bar.
+/// A pressure in bar, from 0 to 10^9.
 pub const PRESSURE: Number = Number::UpTo(9);
 
-/// An energy, in neV.
+/// An energy in eV, kept in neV (10^-9 eV): of a magnitude of at most 1,000 eV.
 pub const ENERGY: Number = Number::Scaled(9, -1_000_000_000_000, 1_000_000_000_000);
 
-/// A molar fraction.
+/// A molar fraction, from 0 to 1.
 pub const FRACTION: Number = Number::UpTo(0);
 
-/// A number of dentates.
+/// A number of dentates, from 1 to 8.
 pub const DENTATES: Number = Number::Whole(1, 8);
 
-/// A seed, or a wall time.
+/// A random seed, or a wall time: any whole number below 2^64.
 pub const ANY_WHOLE: Number = Number::Whole(0, 18_446_744_073_709_551_615);
 
-/// A greatest number of events.
+/// The argument of `max_steps`.
 pub const EVENT_LIMIT: Number = Number::Whole(0, 1_099_511_627_775);
 
-/// A greatest time, in as.
+/// The argument of `max_time` in s, kept in as (10^-18 s).
 pub const TIME_LIMIT: Number = Number::Scaled(18, 0, 1_000_000_000_000_000_000_000_000_000_000);
 
-/// A period of events.
+/// The period of a sampling in events.
 pub const EVENT_PERIOD: Number = Number::Whole(1, 1_099_511_627_775);
 
-/// A period of time, in as.
+/// The period of a sampling in s, kept in as: at least 1 as.
 pub const TIME_PERIOD: Number = Number::Scaled(18, 1, 1_000_000_000_000_000_000_000_000_000_000);
 
 /// The forms of the words that have a value.
-pub const FORMS: [WordForm; 19] = [
+pub const FORMS: [WordForm<Form>; 19] = [
     WordForm {
         keyword: Keyword::RandomSeed,
         form: Form::Number(ANY_WHOLE),
@@ -161,7 +159,7 @@ pub const FORMS: [WordForm; 19] = [
     },
 ];
 
-/// The lists that have to be there where there are species of their kind.
+/// The lists that are required where there are species of their kind.
 pub const NEEDED_LISTS: [NeededList; 5] = [
     NeededList {
         keyword: Keyword::GasSpecsNames,

@@ -1,7 +1,8 @@
-//! The values of the simulation file.
+//! The values of the simulation file, `simulation_input.dat`.
 //!
 //! `read` gives exactly the values of a file of the right shape, or exactly its first fault of a value. The forms of
-//! the words are tables of data, which the definitions read too. It stands on deck_shape.
+//! the words are tables of data, which the definitions read too. The keywords and their meanings are those of the Zacros
+//! manual; the units, ranges and defaults are kmc's own. It stands on deck_shape.
 #![tactic(auto)]
 
 mod faults;

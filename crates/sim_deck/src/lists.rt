@@ -39,14 +39,14 @@ pub(crate) fn has_members(count: Option<u64>) -> bool
     }
 }
 
-/// A name is one that no species has.
+/// A name is `*` or `&`, which mean a vacant site and any state in the rows of patterns.
 fn is_bad_name(name: &[u8]) -> bool
     ensures { result ≡ is_bad_name name.now }
 {
     matches!(name, b"*" | b"&")
 }
 
-/// Some name is one that no species has.
+/// Some name is `*` or `&`.
 fn any_is_bad(bytes: &[u8], names: &[Span]) -> bool
     ensures { result ≡ list_any is_bad_name (map (bytes_at bytes.now) names.now) }
 {

@@ -7,39 +7,46 @@ use kmc_base::Items;
 pub enum Sampling {
     /// Never.
     Off,
-    /// At every event whose number is a multiple of this one.
+    /// At the events 0, N, 2N and so on; N is from 1 to 2^40 - 1.
     Event(u64),
-    /// At every multiple of this time, in as.
+    /// At the times 0, D, 2D and so on; D is in as, from 1 to 10^30.
     Time(u128),
 }
 
-/// How long a run goes on, and when it is sampled.
+/// The seed of a run, its limits, and when its outputs are sampled.
 #[derive(Clone, Copy, Debug, PartialEq, Eq)]
 pub struct Plan {
+    /// The random seed, from `random_seed`; 0 where that is absent.
     pub seed: u64,
-    /// The greatest number of events.
+    /// The greatest number of events, from `max_steps`; 2^40 - 1 where that is absent or `infinity`.
     pub max_steps: u64,
-    /// The end of time in as, if there is one.
+    /// The greatest time in as, at most 10^30, from `max_time`; None where that is absent or `infinity`.
     pub max_time: Option<u128>,
+    /// When `history_output.txt` is sampled, from `snapshots`.
     pub history: Sampling,
+    /// When `procstat_output.txt` is sampled, from `process_statistics`.
     pub procstat: Sampling,
+    /// When `specnum_output.txt` is sampled, from `species_numbers`.
     pub specnum: Sampling,
 }
 
 /// The values of a simulation file.
 #[derive(Debug, Drop)]
 pub struct SimPart {
+    /// The seed, the limits and the samplings.
     pub plan: Plan,
-    /// In mK.
+    /// In mK, from 1 to 10^7.
     pub temperature: u32,
-    /// In bar.
+    /// In bar, from 0 to 10^9.
     pub pressure: Decimal,
+    /// The names of the gas species, at most 64.
     pub gas: Items<Name>,
-    /// Of each gas species, in neV.
+    /// The energy of each gas species in neV (10^-9 eV), of a magnitude of at most 10^12.
     pub gas_energies: Items<i64>,
-    /// The molar fraction of each gas species.
+    /// The molar fraction of each gas species, from 0 to 1.
     pub gas_fractions: Items<Decimal>,
+    /// The names of the surface species, at most 64.
     pub surface: Items<Name>,
-    /// How many dentates each surface species has.
+    /// How many dentates each surface species has, from 1 to 8.
     pub dentates: Items<u8>,
 }

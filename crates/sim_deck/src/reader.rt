@@ -2,7 +2,7 @@ ghost use Rattle.std.specs.Prelude.{◌≡◌, ◌∷◌, [], IfErr, IfOk, Ok, m
 ghost use Rattle.deck_shape.specs.Blocks.{BlockLines, block_at};
 ghost use Rattle.deck_shape.specs.Shapes.{IsFaultOf, IsShapeOf};
 ghost use Rattle.kmc_base.specs.declared.ids.FileId.TheVariants.{Simulation};
-ghost use Rattle.sim_deck.specs.Soundness.{IsSoundPart};
+ghost use Rattle.sim_deck.specs.Soundness.{IsSoundPart, StatesNumbers};
 ghost use Rattle.sim_deck.specs.Values.{part_of, values_at};
 
 use crate::faults::first_fault;
@@ -16,6 +16,7 @@ use std::alloc::Global;
 fn read_block(alloc: Global, bytes: &[u8], block: &Block) -> Result<SimPart, DeckFault>
     ensures values { IfOk result (λ part. part_of (block_at bytes.now block.now) ≡ Ok (values_at bytes.now part)) }
     ensures sound { IfOk result (λ part. IsSoundPart (values_at bytes.now part)) }
+    ensures stated { IfOk result (λ _. StatesNumbers (block_at bytes.now block.now).items) }
     ensures fault { IfErr result (IsFaultOf Simulation (part_of (block_at bytes.now block.now))) }
 {
     if let Some((line, kind)) = first_fault(alloc, block, bytes)? {
@@ -30,13 +31,16 @@ fn read_block(alloc: Global, bytes: &[u8], block: &Block) -> Result<SimPart, Dec
 
 /// The values of a simulation file, or its first fault of a value.
 ///
-/// The faults are `kind::NOT_NUMBER` to `kind::BAD_NAME`; of the kinds that hold at the first faulty line the least is
-/// the fault. A list is measured by the number of species where that has no fault.
+/// The faults are those of `kind` from `NOT_NUMBER` to `LIST_LENGTH`, `REPEATED_NAME` and `BAD_NAME`; of the kinds that
+/// hold at the first faulty line the least is the fault. The length of a list is checked where the number of species
+/// has no fault itself.
 pub fn read(alloc: Global, bytes: &[u8], shape: &Shape) -> Result<SimPart, DeckFault>
     requires { IsShapeOf Simulation bytes.now shape.now }
     ensures values { (block : BlockLines) → map (block_at bytes.now) shape.now.blocks ≡ block ∷ []
         → IfOk result (λ part. part_of block ≡ Ok (values_at bytes.now part)) }
     ensures sound { IfOk result (λ part. IsSoundPart (values_at bytes.now part)) }
+    ensures stated { (block : BlockLines) → map (block_at bytes.now) shape.now.blocks ≡ block ∷ []
+        → IfOk result (λ _. StatesNumbers block.items) }
     ensures fault { (block : BlockLines) → map (block_at bytes.now) shape.now.blocks ≡ block ∷ []
         → IfErr result (IsFaultOf Simulation (part_of block)) }
 {

@@ -1,19 +1,17 @@
-ghost use Rattle.std.specs.Prelude.{◌≡◌, ◌≤◌, ◌^◌, ℕ, List, IfOk, IfSome, map, true, unsigned_abs};
+ghost use Rattle.std.specs.Prelude.{◌≡◌, ◌≤◌, ◌^◌, IfOk, IfSome, map, true, unsigned_abs};
 ghost use Rattle.std.specs.List.{AllByRecursion};
 ghost use Rattle.dec_text.specs.Spans.{bytes_at};
-ghost use Rattle.deck_shape.specs.Blocks.{block_at, item_at};
-ghost use Rattle.deck_shape.specs.Names.{name_at};
+ghost use Rattle.deck_shape.specs.Blocks.{block_at};
 ghost use Rattle.deck_shape.specs.Numbers.{is_up_to};
 ghost use Rattle.sim_deck.specs.Soundness.{AreInRange, IsPeriod, IsSoundPlan};
-ghost use Rattle.sim_deck.specs.Views.{name_of};
-ghost use Rattle.sim_deck.specs.Values.{dentates_of, energy_of, first_word, fraction_of, list_in, names_in, names_on, plan_of, pressure_in, sampling_in, temperature_in, time_limit_in, values_at, values_of, whole_in};
+ghost use Rattle.sim_deck.specs.Values.{dentates_of, energy_of, first_word, fraction_of, plan_of, pressure_in, sampling_in, temperature_in, time_limit_in, values_at, values_of, whole_in};
 
-use crate::faults::{is_infinity, words_behind};
+use crate::faults::is_infinity;
 use crate::forms::{MOST_EVENTS, MOST_TIME};
 use crate::part::{Plan, Sampling, SimPart};
 use crate::samplings::sampling_of;
 use dec_text::{Decimal, Span};
-use deck_shape::{Block, Item, Keyword, Name, ZERO, decimal_value, up_to_value, whole_value};
+use deck_shape::{Block, Keyword, ZERO, decimal_value, up_to_value, whole_value};
 use kmc_base::{Items, OutOfMemory};
 use std::alloc::Global;
 
@@ -38,7 +36,7 @@ fn whole_in(
 ) -> u64
     ensures { result ≡ whole_in keyword least most default (block_at bytes.now block.now).items }
 {
-    match words_behind(block, bytes, keyword) {
+    match block.words_behind(bytes, keyword) {
         Some(words) => whole_value(least, most, default, first_word(bytes, words)),
         None => default,
     }
@@ -50,7 +48,7 @@ fn temperature_in(block: &Block, bytes: &[u8]) -> u32
     ensures some { 1 ≤ result }
     ensures few { result ≤ 10000000 }
 {
-    match words_behind(block, bytes, Keyword::Temperature) {
+    match block.words_behind(bytes, Keyword::Temperature) {
         Some(words) => decimal_value(3, 1, 10_000_000, 1, first_word(bytes, words)) as u32,
         None => 1,
     }
@@ -61,49 +59,9 @@ fn pressure_in(block: &Block, bytes: &[u8]) -> Decimal
     ensures value { result ≡ pressure_in (block_at bytes.now block.now).items }
     ensures range { is_up_to 9 result ≡ true }
 {
-    match words_behind(block, bytes, Keyword::Pressure) {
+    match block.words_behind(bytes, Keyword::Pressure) {
         Some(words) => up_to_value(9, first_word(bytes, words)),
         None => ZERO,
-    }
-}
-
-/// The words of a list, none where it is absent.
-fn list_in<'a>(block: &'a Block, bytes: &[u8], keyword: Keyword) -> &'a [Span]
-    ensures { map (bytes_at bytes.now) result.now ≡ list_in keyword (block_at bytes.now block.now).items }
-{
-    words_behind(block, bytes, keyword).unwrap_or(&[])
-}
-
-/// Words of a line, as names.
-fn names_of(alloc: Global, words: &[Span], line: u32) -> Result<Vec<Name>, OutOfMemory>
-    ensures { IfOk result (λ names. names.items ≡ map (name_of line) words.now) }
-{
-    let mut names = Vec::new(alloc);
-    for span in words {
-        names.push(Name { span: *span, line })?;
-    }
-    Ok(names)
-}
-
-/// The names on a line.
-fn names_on(alloc: Global, item: &Item) -> Result<Vec<Name>, OutOfMemory>
-    ensures { IfOk result (λ names. (text : List ℕ) → map (name_at text) names.items ≡ names_on (item_at text item.now)) }
-{
-    names_of(alloc, item.arguments(), item.line.number)
-}
-
-/// The names of a list, none where it is absent.
-fn names_in(
-    alloc: Global,
-    block: &Block,
-    bytes: &[u8],
-    keyword: Keyword,
-) -> Result<Vec<Name>, OutOfMemory>
-    ensures { IfOk result (λ names. map (name_at bytes.now) names.items ≡ names_in keyword (block_at bytes.now block.now).items) }
-{
-    match block.item(bytes, keyword) {
-        Some(item) => names_on(alloc, item),
-        None => Ok(Vec::new(alloc)),
     }
 }
 
@@ -127,7 +85,7 @@ fn energy_of(word: &[u8]) -> i64
     decimal_value(9, -1_000_000_000_000, 1_000_000_000_000, 0, word) as i64
 }
 
-/// A molar fraction.
+/// A molar fraction, from 0 to 1.
 fn fraction_of(word: &[u8]) -> Decimal
     ensures value { result ≡ fraction_of word.now }
     ensures range { is_up_to 0 result ≡ true }
@@ -172,18 +130,18 @@ fn sampling_in(block: &Block, bytes: &[u8], keyword: Keyword) -> Sampling
     ensures value { result ≡ sampling_in keyword (block_at bytes.now block.now).items }
     ensures sound { IsPeriod result }
 {
-    match words_behind(block, bytes, keyword) {
+    match block.words_behind(bytes, keyword) {
         Some(words) => sampling_of(bytes, words),
         None => Sampling::Off,
     }
 }
 
-/// The end of time in as, if there is one.
+/// The greatest time in as, if one is stated.
 fn time_limit_in(block: &Block, bytes: &[u8]) -> Option<u128>
     ensures value { result ≡ time_limit_in (block_at bytes.now block.now).items }
     ensures range { IfSome result (λ t. t ≤ 10 ^ 30) }
 {
-    let words = words_behind(block, bytes, Keyword::MaxTime)?;
+    let words = block.words_behind(bytes, Keyword::MaxTime)?;
     if is_infinity(bytes, words) {
         return None;
     }
@@ -211,11 +169,11 @@ pub(crate) fn values_of(alloc: Global, block: &Block, bytes: &[u8]) -> Result<Si
     ensures value { IfOk result (λ part. values_at bytes.now part ≡ values_of (block_at bytes.now block.now).items) }
     ensures range { IfOk result (λ part. AreInRange (values_at bytes.now part)) }
 {
-    let gas = names_in(alloc, block, bytes, Keyword::GasSpecsNames)?;
-    let gas_energies = energies(alloc, bytes, list_in(block, bytes, Keyword::GasEnergies))?;
-    let gas_fractions = fractions(alloc, bytes, list_in(block, bytes, Keyword::GasMolarFracs))?;
-    let surface = names_in(alloc, block, bytes, Keyword::SurfSpecsNames)?;
-    let dentates = dentates(alloc, bytes, list_in(block, bytes, Keyword::SurfSpecsDent))?;
+    let gas = block.names_in(alloc, bytes, Keyword::GasSpecsNames)?;
+    let gas_energies = energies(alloc, bytes, block.list_in(bytes, Keyword::GasEnergies))?;
+    let gas_fractions = fractions(alloc, bytes, block.list_in(bytes, Keyword::GasMolarFracs))?;
+    let surface = block.names_in(alloc, bytes, Keyword::SurfSpecsNames)?;
+    let dentates = dentates(alloc, bytes, block.list_in(bytes, Keyword::SurfSpecsDent))?;
     Ok(SimPart {
         plan: plan_of(block, bytes),
         temperature: temperature_in(block, bytes),

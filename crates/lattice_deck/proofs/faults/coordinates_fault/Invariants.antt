@@ -1,6 +1,6 @@
 use Rattle.std.proofs.Common.{◌≡◌, drop, map}
 use Rattle.dec_text.specs.Spans.{line_at}
-use Rattle.site_rows.specs.FirstFault.{first_of_lines}
+use Rattle.deck_shape.specs.FirstFault.{first_of_lines}
 use Rattle.lattice_deck.specs.Coordinates.{coordinates_kind}
 use Rattle.lattice_deck.specs.Faults.{row_lines}
 use Rattle.lattice_deck.proofs.faults.coordinates_fault.Given as goal

@@ -1,5 +1,5 @@
 use Rattle.std.proofs.Common.{◌∙◌, ap, sym, arith}
-use Rattle.site_rows.specs.FirstFault.{line_fault}
+use Rattle.deck_shape.specs.FirstFault.{line_fault}
 use Rattle.lattice_deck.specs.Joins.{join_kind}
 use Rattle.lattice_deck.proofs.FaultLines.{row_found, row_passed}
 use Rattle.lattice_deck.proofs.faults.joins_fault.Goals as goal

@@ -4,7 +4,7 @@ use Rattle.std.proofs.lemmas.List.{length-map}
 use Rattle.dec_text.specs.Spans.{bytes_at, line_at}
 use Rattle.lattice_core.specs.Fault.{first_fault}
 use Rattle.lattice_cell.specs.Periodic.{neighbour_lists}
-use Rattle.site_rows.specs.Types.{type_of}
+use Rattle.lattice_deck.specs.Types.{type_of}
 use Rattle.lattice_deck.proofs.CellJoins.{cell_sound, same_count}
 use Rattle.lattice_deck.proofs.SizesSound.{few_of}
 use Rattle.lattice_deck.proofs.values.cell_graph.Goals as goal
@@ -12,7 +12,7 @@ use Rattle.lattice_deck.proofs.values.cell_graph.Goals as goal
 pub unreachable-requires-in_default-2 : goal.unreachable-requires-in_default-2
 unreachable-requires-in_default-2 c =
     let text = c.args.bytes.now in
-    let sound = cell_sound c.args.sizes.now (map (bytes_at text) c.args.names.now) (map (bytes_at text) c.args.types.now) (map (line_at text) c.args.rows.now) c.requires
+    let sound = cell_sound c.args.sizes.now (map (λ name. name.items) c.args.names.now) (map (bytes_at text) c.args.types.now) (map (line_at text) c.args.rows.now) c.requires
     c.in-Some-Some.sites c.in-Some-Some.nx c.in-Some-Some.ny c.in-Some-Some.is-0 c.in-Some-Some.is-1 in
     let none : None ≡ Some sound.0 = ap (option_map (λ v. v.items)) (sym c.in_default-2.is) ∙ c.in_ok-joins.ensures.value ∙ sound.1 in
     cc
@@ -30,7 +30,7 @@ overflow_cast-ny c =
 pub repeated_graph-requires-clause-none : goal.repeated_graph-requires-clause-none
 repeated_graph-requires-clause-none c =
     let text = c.args.bytes.now in
-    let names = map (bytes_at text) c.args.names.now in
+    let names = map (λ name. name.items) c.args.names.now in
     let words = map (bytes_at text) c.args.types.now in
     let nx = c.in-Some-Some.nx in
     let ny = c.in-Some-Some.ny in

@@ -1,6 +1,6 @@
 use Rattle.std.proofs.Common.{◌∙◌, ap, map}
 use Rattle.dec_text.specs.Spans.{bytes_at}
-use Rattle.lattice_deck.proofs.WordLists.{words_at}
+use Rattle.deck_shape.proofs.NameLists.{words_at}
 use Rattle.lattice_deck.proofs.words.row_words.Goals as goal
 
 pub returns : goal.returns

@@ -1,8 +1,9 @@
 use Rattle.std.proofs.Common.{◌≡◌, ◌∙◌, sym, ap, None, map}
 use Rattle.std.specs.Option.{option_map}
 use Rattle.deck_shape.specs.Blocks.{item_at}
+use Rattle.deck_shape.specs.FirstFault.{fault_or}
 use Rattle.sim_deck.proofs.FaultLines.{with_closing}
-use Rattle.sim_deck.specs.Faults.{closing_kind, counts_in, fault_among, fault_or}
+use Rattle.sim_deck.specs.Faults.{closing_kind, counts_in, fault_among}
 use Rattle.sim_deck.proofs.faults.first_fault.Goals as goal
 
 pub returns-in-Some : goal.returns-in-Some

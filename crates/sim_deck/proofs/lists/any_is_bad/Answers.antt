@@ -4,7 +4,7 @@ use Rattle.std.proofs.lemmas.Iterator.{YieldsList-from_slice}
 use Rattle.std.proofs.lemmas.Iterator.Search.{any_from_yields_List}
 use Rattle.dec_text.specs.Spans.{bytes_at}
 use Rattle.sim_deck.specs.Lists.{is_bad_name}
-use Rattle.sim_deck.proofs.Maps.{list_any-map}
+use Rattle.deck_shape.proofs.Maps.{list_any-map}
 use Rattle.sim_deck.proofs.lists.any_is_bad.Goals as goal
 
 pub returns : goal.returns

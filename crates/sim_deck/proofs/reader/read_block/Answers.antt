@@ -1,6 +1,7 @@
 use Rattle.std.proofs.Common.{◌≡◌, ◌∙◌, None, sym, subst}
 use Rattle.deck_shape.specs.Blocks.{block_at}
 use Rattle.sim_deck.proofs.SoundLists.{AreLists, sound_lists}
+use Rattle.sim_deck.proofs.Stated.{states_numbers}
 use Rattle.sim_deck.specs.Faults.{first_fault}
 use Rattle.sim_deck.proofs.reader.read_block.Goals as goal
 
@@ -24,3 +25,6 @@ returns-clause-sound c =
       one_number_each = lists.one_number_each;
       dentates = numbers.dentates;
     }
+
+pub returns-clause-stated : goal.returns-clause-stated
+returns-clause-stated c = states_numbers (block_at c.args.bytes.now c.args.block.now) (sym c.in_ok-line.ensures ∙ c.in_default.is)

@@ -1,7 +1,0 @@
-mod Faultless
-mod ListedLattice
-mod NumberLists
-mod Placed
-mod RowLookups
-mod RowWords
-mod Searches
