@@ -2,7 +2,7 @@
 use Rattle.std.proofs.Common.{◌≡◌, ◌≢◌, ℕ, zero, suc, ◌+◌, ◌-◌, ◌<◌, ◌≤◌, Bool, true, false, cond, eqb, List, [], ◌∷◌, length, get_or, set, map, zip, All, AllPairs, slice_index, inl, inr, refl, subst, sym, ◌∙◌, ap, arith}
 use Rattle.std.specs.Bool.{beq}
 use Rattle.std.specs.List.{range_with_len, list_all}
-use Rattle.std.proofs.lemmas.Bool.{cases_Bool, cases_lt, or_parts, eq-eqb, eqb-true, ne_eqb, both_ways, false≢true, and_parts, false_from_ne_true, cond-true, cond-false}
+use Rattle.std.proofs.lemmas.Bool.{cases_Bool, cases_lt, or_parts, eq-eqb, eqb-true, both_ways, false≢true, and_parts, false_from_ne_true}
 use Rattle.std.proofs.lemmas.List.{ext_get_or, get_or_past, get_or-set_same, get_or-set_other, length-set}
 use Rattle.std.proofs.lemmas.List.FromFn.{get_or-map-range_with_len, length-map-range_with_len}
 use Rattle.kmc_base.specs.declared.ids.SpeciesId.{SpeciesId}
@@ -12,6 +12,7 @@ use Rattle.lattice_core.specs.Config.{state_at, held, has_home, state_among, put
 use Rattle.lattice_core.specs.SiteList.{is_listed}
 use Rattle.lattice_core.specs.declared.state.State.{State}
 use Rattle.lattice_core.specs.declared.state.State.TheVariants.{Vacant as Free, Holds as Occupied}
+use Rattle.lattice_core.proofs.Adsorbates.{among_at, held_from_home, later_different, state_among-unlisted}
 use Rattle.lattice_core.proofs.Members.{listed_place, listed_at, same_answers}
 use Rattle.pattern_types.specs.Parts.{PatternParts, vertices, vertex_count}
 use Rattle.pattern_types.specs.declared.wanted.Wanted.TheVariants.{Vacant, Holds}
@@ -37,25 +38,6 @@ after_cleared states own s =
           ∙ sym (either_free (is_listed own s) (state_at states s) (get_or_past states s Free past))
     ]
 
-among_off : (species home d : ℕ) (own : List ℕ) (s : ℕ) (old : State) → is_listed own s ≡ false → state_among species home d own s old ≡ old
-among_off species home d [] s old none = refl
-among_off species home d (t ∷ own) s old none =
-    let parts = or_parts (eqb t s) (is_listed own s) none in
-    cond-false _ _ _ parts.0 ∙ among_off species home (d + 1) own s old parts.1
-
-later : (t : ℕ) (sites : List ℕ) → AllPairs (λ s u. s ≢ u) (t ∷ sites) → AllPairs (λ s u. s ≢ u) sites
-later t sites different i j d below within = different (suc i) (suc j) d (omega arith) (omega arith)
-
-among_on : (species home d : ℕ) (own : List ℕ) (m : ℕ) (old : State) → AllPairs (λ s t. s ≢ t) own → m < length own → state_among species home d own (get_or own m 0) old ≡ held species (d + m) home
-among_on species home d [] m old different within = absurd (omega arith)
-among_on species home d (t ∷ own) zero old different within =
-    cond-true _ _ _ (eq-eqb t t refl) ∙ ap (λ n. held species n home) (omega arith)
-among_on species home d (t ∷ own) (suc m) old different within =
-    let apart : t ≢ get_or own m 0 = different 0 (suc m) 0 (omega arith) within in
-    cond-false _ _ _ (ne_eqb t (get_or own m 0) apart)
-    ∙ among_on species home (d + 1) own m old (later t own different) (omega arith)
-    ∙ ap (λ n. held species n home) (omega arith)
-
 module _ (states : List State) (species : ℕ) (own : List ℕ) where
   among : ℕ → State
   among s = state_among species (slice_index own 0) 1 own s (state_at states s)
@@ -73,20 +55,16 @@ module _ (states : List State) (species : ℕ) (own : List ℕ) where
   pub put_on : AllPairs (λ s t. s ≢ t) own → All (λ s. s < length states) own → (m : ℕ) → m < length own → state_at (put states species own) (get_or own m 0) ≡ held species (1 + m) (slice_index own 0)
   unfolding among
   put_on different inside m within =
-      put_within (get_or own m 0) (inside m 0 within) ∙ among_on species (slice_index own 0) 1 own m (state_at states (get_or own m 0)) different within
+      put_within (get_or own m 0) (inside m 0 within) ∙ among_at species (slice_index own 0) 1 own m (state_at states (get_or own m 0)) different within
 
   -- and the other sites
   pub put_off : (s : ℕ) → is_listed own s ≡ false → state_at (put states species own) s ≡ state_at states s
   unfolding among
   put_off s none =
       elim (cases_lt s (length states)) [
-        | inl within ↦ put_within s within ∙ among_off species (slice_index own 0) 1 own s (state_at states s) none
+        | inl within ↦ put_within s within ∙ state_among-unlisted species (slice_index own 0) 1 own s (state_at states s) none
         | inr past ↦ put_past s past ∙ sym (get_or_past states s Free past)
       ]
-
-held_from_home : (x : State) (h : ℕ) → has_home x h ≡ true → (p d : ℕ) × (x ≡ held p d h)
-held_from_home Free h is = absurd (false≢true is)
-held_from_home (Occupied species dentate home) h is = (species.0, dentate, ap (held species.0 dentate) (eqb-true home.0 h is))
 
 -- Sites that hold the dentates of a species in their order, of one home and as many as the species has, are all those of
 -- an adsorbate.
@@ -214,7 +192,7 @@ with-on (t ∷ sites) [] states i low long different inside = absurd (omega arit
 with-on (t ∷ sites) (x ∷ given) states zero low long different inside =
     with-off sites given (set states t x) t (first_once t sites different) ∙ get_or-set_same states t x Free (inside 0 0 (omega arith))
 with-on (t ∷ sites) (x ∷ given) states (suc i) low long different inside =
-    with-on sites given (set states t x) i (omega arith) (omega arith) (later t sites different)
+    with-on sites given (set states t x) i (omega arith) (omega arith) (later_different t sites different)
     (λ j d within. let there = inside (suc j) d (omega arith) in let count = length-set states t x in omega arith)
 
 -- a configuration that has these states on these sites, and elsewhere the old ones

@@ -1,5 +1,6 @@
 pub mod ByCode
 pub mod Each
+pub mod EntriesPushed
 pub mod Facts
 pub mod FiringEntities
 pub mod FiringSites

@@ -1,4 +1,5 @@
--- A plain deck: steps of one direction whose sites do not interact, with no energies and no gas.
+-- A plain deck: processes that each have a pre-exponential factor and an activation energy, of adsorbates that do not
+-- interact. No process consumes or produces gas.
 use Rattle.std.specs.Prelude.{◌≡◌, ℕ, ◌^◌, ◌≤◌, List, length, slice_index_or, unsigned_abs}
 use Rattle.std.specs.List.{All, AllByRecursion, Contains}
 use Rattle.kmc_core.specs.declared.deck.PlainDeck.{PlainDeck}

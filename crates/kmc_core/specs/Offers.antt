@@ -1,4 +1,4 @@
--- What a state offers, in range.
+-- The numbers of an instance that a state offers are in range.
 use Rattle.std.specs.Prelude.{ℕ, ◌^◌, ◌<◌, ◌≤◌, ℤ, Option, unsigned_abs}
 use Rattle.std.specs.Option.{ForSome}
 

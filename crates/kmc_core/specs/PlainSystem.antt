@@ -47,7 +47,7 @@ opening deck = replicate (site_count deck.graph) Vacant
 abbrev pub trajectory_of : PlainDeck → ℕ → Option (Snapshot (List State))
 trajectory_of deck event = trajectory (system_of deck) deck.plan.seed (opening deck) event
 
--- dentate 1 of an adsorbate of a species stands there: as many sites are in such a state as there are adsorbates of it
+-- dentate 1 of an adsorbate of a species stands on a site: as many sites have it as there are adsorbates of the species
 abbrev pub is_home_of : SpeciesId → State → Bool
 is_home_of species Vacant = false
 is_home_of species (Holds held dentate home) = held.0 == species.0 && dentate == 1

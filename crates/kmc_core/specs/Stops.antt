@@ -16,15 +16,16 @@ samples_due (Time period) event time = time / period + 1
 abbrev pub is_full : Sampling → ℕ → ℕ → Bool
 is_full sampling event time = nat_le 10000000 (samples_due sampling event time)
 
+-- some output has
 abbrev pub some_output_is_full : Plan → ℕ → ℕ → Bool
 some_output_is_full plan event time =
     is_full plan.history event time || is_full plan.procstat event time || is_full plan.specnum event time
 
--- the end of time: that of the plan, or 10^30 as
+-- the greatest time of a run: max_time of the deck, or 10^30 as (10^12 s) where it is infinity
 abbrev pub end_of_time : Plan → ℕ
 end_of_time plan = unwrap_or plan.max_time (10 ^ 30)
 
--- where nothing has a time, and where what comes first comes too late
+-- why the run goes no further: no instance has a time, or the first one comes after the greatest time
 abbrev pub stop_before : Plan → Option (ℕ × ℕ) → Option Stop
 stop_before plan None = Some Still
 stop_before plan (Some first) = if nat_lt (end_of_time plan) first.0 then Some Horizon else None

@@ -1,6 +1,6 @@
 -- The rescanning trajectory: fire the entry that comes first, list the whole new state, keep or draw each
--- time, and go on (the first reaction method of kinetic Monte Carlo; Stamatakis and Vlachos 2011). It is stated over
--- any system of events, and knows nothing of chemistry.
+-- time, and go on (the first reaction method of kinetic Monte Carlo, with drawn times kept as long as they hold;
+-- Stamatakis and Vlachos 2011). It is stated over any system of events, and knows nothing of chemistry.
 use Rattle.std.specs.Prelude.{ℕ, zero, suc, ℤ, List, map, Option, Some, option_and_then}
 use Rattle.std.specs.Option.{option_map}
 use Rattle.fixed_math.specs.WaitingTime.{time_of}
@@ -8,8 +8,9 @@ use Rattle.kmc_base.specs.Entries.{chosen, least}
 use Rattle.kmc_base.specs.declared.entry.Entry.{Entry}
 use Rattle.named_draws.specs.Draw.{draw}
 
--- A system of events: the instances that a state offers, each by its code and the logarithm of its rate (None
--- where it has no rate), in rising order of their codes; and the state after the instance of a code has fired.
+-- A system of events: the instances that a state offers, each by its code and the base-2 logarithm of its rate in 1/s,
+-- in units of 2^-30 (None where it has no rate), in rising order of their codes; and the state after the instance of a
+-- code has fired.
 pub record System (S : Type 0) : Type 0 where
   pub offers : S → List (ℕ × Option ℤ)
   pub fires : S → ℕ → S

@@ -7,13 +7,12 @@ ghost use Rattle.kmc_core.specs.Trajectory.{start};
 ghost use Rattle.lattice_core.specs.Config.{IsWellFormed};
 
 use crate::deck::PlainDeck;
+use crate::entry_lists::EntryLists;
 use crate::fired::Fired;
 use crate::stop::{Stop, stop_at};
 use crate::unclosed::Unclosed;
-use crate::{least, listing, renewal};
-use kmc_base::{Entry, OutOfMemory, SpeciesId};
+use kmc_base::{OutOfMemory, SpeciesId};
 use lattice_core::{Config, Steps};
-use named_draws::Draws;
 use std::alloc::Global;
 use std::marker::{Brand, Model};
 use std::sync::ledger::{Blank, Ledger};
@@ -27,7 +26,7 @@ pub struct Closed {
     pub(crate) event: u64,
     pub(crate) time: u128,
     pub(crate) config: Config,
-    pub(crate) entries: Vec<Entry>,
+    pub(crate) lists: EntryLists,
 }
 
 impl Model for Closed {
@@ -39,21 +38,20 @@ impl Model for Closed {
 
     ghost view = { λ c. record { deck = c.deck; event = c.event } };
 
-    ghost invariant = { λ c. IsClosedAt c.deck c.event (record { state = c.config; time = c.time; entries = c.entries.items }) };
+    ghost invariant = { λ c. IsClosedAt c.deck c.event (record { state = c.config; time = c.time; entries = c.lists.current }) };
 }
 
 /// The configuration and the entries of a deck at its start.
-fn opening(alloc: Global, deck: &PlainDeck) -> Result<(Config, Vec<Entry>), OutOfMemory>
+fn opening(alloc: Global, deck: &PlainDeck) -> Result<(Config, EntryLists), OutOfMemory>
     requires { IsSound deck.now }
     ensures states { IfOk result (λ r. r.0 ≡ opening_of deck.now) }
     ensures well_formed { IfOk result (λ r. IsWellFormed (dentates_in deck.now.book) r.0) }
-    ensures entries { IfOk result (λ r. r.1.items ≡ (start (system_of deck.now) deck.now.plan.seed (opening_of deck.now)).entries) }
+    ensures entries { IfOk result (λ r. r.1.current ≡ (start (system_of deck.now) deck.now.plan.seed (opening_of deck.now)).entries) }
 {
     let config = Config::vacant(alloc, deck.graph.len())?;
-    let offers = listing::instances(alloc, deck, &config)?;
-    let mut draws = Draws::new(deck.plan.seed);
-    let entries = renewal::renew(alloc, &[], (0, 0), &offers, &mut draws, 0)?;
-    Ok((config, entries))
+    let mut lists = EntryLists::none(alloc);
+    lists.renew(alloc, deck, &config, (0, 0), 0)?;
+    Ok((config, lists.advanced()))
 }
 
 /// How many of some sites have a class.
@@ -87,12 +85,12 @@ impl Closed {
         ensures err { IfErr result (λ refused. refused.0 ≡ deck) }
     {
         match opening(alloc, &deck) {
-            Ok((config, entries)) => Ok(Closed {
+            Ok((config, lists)) => Ok(Closed {
                 deck,
                 event: 0,
                 time: 0,
                 config,
-                entries,
+                lists,
             }),
             Err(error) => Err((deck, error)),
         }
@@ -114,12 +112,12 @@ impl Closed {
         self.time
     }
 
-    /// The time and the code of the instance that fires next, the least by (time, code). `None` where
-    /// no instance has a time.
+    /// The time in as and the code of the instance that fires next, the least by (time, code). `None`
+    /// where no instance has a time.
     pub fn least(&self) -> Option<(u128, u128)>
         ensures { IsSomeAnd (trajectory_of self.now.deck self.now.event) (λ s. result ≡ least_of s.entries) }
     {
-        least::least(&self.entries)
+        self.lists.current.least()
     }
 
     /// The number of adsorbates of a species.

@@ -13,9 +13,9 @@ pub struct PlainProcess {
     /// What stands on them afterwards.
     pub after: Pattern,
     /// The base-2 logarithm of the pre-exponential factor in 1/s, in units of 2^-30, or None where
-    /// the factor is 0.
+    /// the factor is 0 and the process never fires.
     pub factor: Option<i64>,
-    /// The activation energy in neV, of a magnitude of at most 10^12.
+    /// The activation energy in neV, of a magnitude of at most 10^12. A negative one counts as 0.
     pub activation: i64,
 }
 
@@ -24,11 +24,11 @@ pub struct PlainProcess {
 pub struct PlainDeck {
     /// The temperature in mK, from 1 to 10,000,000.
     pub temperature: u32,
-    /// The lattice.
+    /// The sites with their types and neighbours.
     pub graph: Graph,
     /// The random seed, the end of the run, and when it is sampled.
     pub plan: Plan,
-    /// The gas species and the surface species.
+    /// The names of the gas species and the surface species, and the dentates of the latter.
     pub book: SpeciesBook,
     /// The number of gas species.
     pub gas: u8,

@@ -1,11 +1,11 @@
-//! The core: what a state of the lattice offers, and the trajectory from one event to the next by
-//! rescanning the whole lattice.
+//! The core: which instances of processes a state of the lattice offers, and the trajectory from one
+//! event to the next by rescanning the whole lattice.
 //!
-//! A process is a pair of patterns: what it asks of the sites of an instance, and what stands on
-//! them afterwards. A `Closed` is the state of its deck's trajectory at its event, by its type; an
-//! `Unclosed` has fired the next event and cannot be fired itself. A run ends for the first of four reasons that holds: an output has all its samples, the
-//! greatest number of events is reached, nothing can fire any more, or what fires next comes after
-//! the end of time.
+//! A process, an elementary step in one direction, is a pair of patterns: what it asks of the sites of
+//! an instance, and what stands on them afterwards. A `Closed` is the state of its deck's trajectory at
+//! its event, by its type; an `Unclosed` has fired the next event and cannot be fired itself. A run
+//! ends for the first of four reasons that holds: an output has all its samples, the greatest number
+//! of events is reached, nothing can fire any more, or what fires next comes after the greatest time.
 //!
 //! The crate stands on `kmc_base` for entries and the rule by which they keep their times, on
 //! `lattice_core` for the lattice and its configuration, on `pattern_types` and `pattern_list` for
@@ -15,9 +15,10 @@
 
 mod closed;
 mod deck;
+mod entries;
+mod entry_lists;
 mod fired;
 mod firing;
-mod least;
 mod listing;
 mod renewal;
 mod stop;

@@ -1,14 +1,14 @@
-ghost use Rattle.std.specs.Prelude.{◌≡◌, ℕ, ◌^◌, ◌<◌, ◌≤◌, IfOk, IfSome, Some, map, slice_get, option_copied};
+ghost use Rattle.std.specs.Prelude.{◌≡◌, ℕ, ◌^◌, ◌<◌, ◌≤◌, OnOk, IfSome, Some, map, slice_get, option_copied};
 ghost use Rattle.std.specs.List.{AllByRecursion};
 ghost use Rattle.kmc_base.specs.Entries.{IsRising, codes_of, kept_or, entry_at};
 ghost use Rattle.kmc_core.specs.Trajectory.{fresh, renewed};
 ghost use Rattle.kmc_core.specs.Offers.{IsOffer};
 
+use crate::entries::Entries;
 use crate::listing::Offer;
 use fixed_math::wait;
 use kmc_base::{Entry, OutOfMemory};
 use named_draws::Draws;
-use std::alloc::Global;
 
 /// An instance whose waiting time is drawn at an event, at the event's time.
 fn fresh_entry(draws: &mut Draws, event: u64, time: u128, offer: Offer) -> Entry
@@ -79,29 +79,30 @@ fn entry_of(entries: &[Entry], code: u128) -> Option<&Entry>
     }
 }
 
-/// The entries after an event, for the instances that the whole lattice offers: kept, or drawn at
-/// the event. Both lists are in rising order of codes, and are merged.
+/// Makes a list the entries after an event, for the instances that the whole lattice offers: kept, or
+/// drawn at the event. The old entries and the instances are in rising order of codes, and are merged.
 pub(crate) fn renew(
-    alloc: Global,
+    entries: &mut Entries,
     old: &[Entry],
     first: (u128, u128),
     offers: &[Offer],
     draws: &mut Draws,
     event: u64,
-) -> Result<Vec<Entry>, OutOfMemory>
+) -> Result<(), OutOfMemory>
     requires time { first.0 ≤ 10 ^ 30 }
     requires old { IsRising (codes_of old.now) }
     requires rising { IsRising (map (λ offer. offer.0) offers.now) }
     requires offers { AllByRecursion IsOffer offers.now }
-    ensures value { IfOk result (λ entries. entries.items ≡ renewed draws.old event old.now first offers.now) }
+    ensures value { OnOk result (entries.new ≡ renewed draws.old event old.now first offers.now) }
     ensures seed { draws.new ≡ draws.old }
 {
-    let mut entries = Vec::with_capacity(alloc, offers.len())?;
+    entries.clear();
+    entries.reserve(offers.len())?;
     let mut rest = old;
     for offer in offers {
         rest = skip_below(rest, offer.0);
         let entry = entry_of(rest, offer.0);
         entries.push(renewed_entry(entry, first, draws, event, *offer))?;
     }
-    Ok(entries)
+    Ok(())
 }

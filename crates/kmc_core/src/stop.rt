@@ -7,13 +7,13 @@ use sim_deck::{Plan, Sampling};
 /// Why a run has ended: the first of these that holds after its event.
 #[derive(Clone, Copy, Debug, PartialEq, Eq, Hash)]
 pub enum Stop {
-    /// An output has 10,000,000 samples, which is as many as it may have.
+    /// Some output has 10,000,000 samples or more due; no more than these are written.
     Samples,
-    /// The deck's greatest number of events is reached.
+    /// The deck's greatest number of events, `max_steps`, is reached.
     Steps,
     /// No instance has a time: nothing can fire any more.
     Still,
-    /// The next event would come after the end of time: that of the deck, or 10^30 as.
+    /// The next event would come after the greatest time: `max_time` of the deck, or 10^30 as (10^12 s).
     Horizon,
 }
 

@@ -7,18 +7,19 @@ ghost use Rattle.lattice_core.specs.Lattice.{site_count};
 
 use crate::closed::Closed;
 use crate::deck::PlainDeck;
-use crate::{firing, listing, renewal};
-use kmc_base::{Entry, OutOfMemory};
+use crate::entry_lists::EntryLists;
+use crate::firing::fire;
+use crate::listing::process_of;
+use kmc_base::OutOfMemory;
 use lattice_core::Config;
-use named_draws::Draws;
 use pattern_list::decode;
 use std::alloc::Global;
 use std::marker::Model;
 
-/// Why an open event could not be closed: the mask of what is undone, which is not 0.
+/// Why an open event could not be closed.
 #[derive(Clone, Copy, Debug, PartialEq, Eq)]
 pub struct Undone {
-    /// 1, for the listing.
+    /// The mask of what is undone, which is not 0: 1, for the listing.
     pub mask: u64,
 }
 
@@ -31,23 +32,22 @@ pub struct Unclosed {
     // The time of the event and the code that fired.
     first: (u128, u128),
     config: Config,
-    // The entries before the event, and those after it once they are there.
-    entries: Vec<Entry>,
-    renewed: Option<Vec<Entry>>,
+    lists: EntryLists,
+    // Whether the next entries are those after the event.
+    listed: bool,
 }
 
 impl Model for Unclosed {
-    ghost use Rattle.std.specs.Prelude.{is_some, if◌then◌else◌};
-    ghost use Rattle.std.specs.Option.{option_map};
+    ghost use Rattle.std.specs.Prelude.{Some, None, if◌then◌else◌};
     ghost use Rattle.kmc_core.specs.Run.{OpenRun};
 
     ghost Value = { OpenRun };
 
     ghost use Rattle.kmc_core.specs.Run.{IsOpenAt};
 
-    ghost view = { λ u. record { deck = u.deck; event = u.event; undone = if is_some u.renewed then 0 else 1 } };
+    ghost view = { λ u. record { deck = u.deck; event = u.event; undone = if u.listed then 0 else 1 } };
 
-    ghost invariant = { λ u. IsOpenAt u.deck u.event u.first u.config u.entries.items (option_map (λ v. v.items) u.renewed) };
+    ghost invariant = { λ u. IsOpenAt u.deck u.event u.first u.config u.lists.current (if u.listed then Some u.lists.next else None) };
 }
 
 /// Fires the instance of a code on a configuration that offers it. It takes no memory.
@@ -59,9 +59,9 @@ fn fire_code(config: &mut Config, deck: &PlainDeck, code: u128)
     ensures states { config.new ≡ (system_of deck.now).fires config.old code }
     ensures well_formed { IsWellFormed (dentates_in deck.now.book) config.new }
 {
-    let process = listing::process_of(deck, code);
+    let process = process_of(deck, code);
     let placement = decode(&deck.graph, &process.before, code);
-    firing::fire(config, &deck.book, process, placement.sites());
+    fire(config, &deck.book, process, placement.sites());
 }
 
 impl Unclosed {
@@ -75,7 +75,7 @@ impl Unclosed {
             deck,
             event,
             mut config,
-            entries,
+            lists,
             ..
         } = closed;
         fire_code(&mut config, &deck, first.1);
@@ -84,8 +84,8 @@ impl Unclosed {
             event: event + 1,
             first,
             config,
-            entries,
-            renewed: None,
+            lists,
+            listed: false,
         }
     }
 
@@ -93,7 +93,7 @@ impl Unclosed {
     pub fn undone(&self) -> u64
         ensures { result ≡ self.now.undone }
     {
-        if self.renewed.is_some() { 0 } else { 1 }
+        if self.listed { 0 } else { 1 }
     }
 
     /// Lists the instances of the whole lattice anew: an instance that was there with the same rate,
@@ -103,16 +103,11 @@ impl Unclosed {
         ensures ok { OnOk result (self.new ≡ record self.old { undone = 0 }) }
         ensures err { OnErr result (self.new ≡ self.old) }
     {
-        let offers = listing::instances(alloc, &self.deck, &self.config)?;
-        let mut draws = Draws::new(self.deck.plan.seed);
-        self.renewed = Some(renewal::renew(
-            alloc,
-            &self.entries,
-            self.first,
-            &offers,
-            &mut draws,
-            self.event,
-        )?);
+        if !self.listed {
+            self.lists
+                .renew(alloc, &self.deck, &self.config, self.first, self.event)?;
+            self.listed = true;
+        }
         Ok(())
     }
 
@@ -121,33 +116,15 @@ impl Unclosed {
         ensures ok { IfOk result (λ closed. (self.undone ≡ 0) × (closed ≡ record { deck = self.deck; event = self.event })) }
         ensures err { IfErr result (λ refused. (refused.0 ≡ self) × (refused.1.mask ≡ self.undone) × (self.undone ≢ 0)) }
     {
-        let Unclosed {
-            deck,
-            event,
-            first,
-            config,
-            entries,
-            renewed,
-        } = self;
-        match renewed {
-            Some(entries) => Ok(Closed {
-                deck,
-                event,
-                time: first.0,
-                config,
-                entries,
-            }),
-            None => Err((
-                Unclosed {
-                    deck,
-                    event,
-                    first,
-                    config,
-                    entries,
-                    renewed,
-                },
-                Undone { mask: 1 },
-            )),
+        if !self.listed {
+            return Err((self, Undone { mask: 1 }));
         }
+        Ok(Closed {
+            deck: self.deck,
+            event: self.event,
+            time: self.first.0,
+            config: self.config,
+            lists: self.lists.advanced(),
+        })
     }
 }

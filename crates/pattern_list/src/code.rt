@@ -1,4 +1,4 @@
-ghost use Rattle.std.specs.Prelude.{◌≡◌, ◌-◌, ◌*◌, ◌/◌, ◌%◌, ◌^◌, ◌<◌, ◌≤◌, ℕ, List, length, slice_index};
+ghost use Rattle.std.specs.Prelude.{◌≡◌, ◌-◌, ◌*◌, ◌/◌, ◌%◌, ◌^◌, ◌<◌, ◌≤◌, ℕ, List};
 ghost use Rattle.lattice_core.specs.SiteList.{site_numbers};
 ghost use Rattle.pattern_types.specs.Parts.{vertex_count};
 ghost use Rattle.pattern_list.specs.Code.{code_of, slot_at, slots_code, HasCode, IsCode};
@@ -37,7 +37,9 @@ fn slots_code(graph: &Graph, pattern: &Pattern, sites: &[SiteId]) -> u64
     code
 }
 
-/// The code of an instance of a process: of the process and a placement. It takes no memory.
+/// The code of an instance of a process, a number below 2^65: `process * 2^55 + anchor * 2^35`, and for each place of the
+/// order of the pattern's vertices, from 1 on, `slot * 2^(35 - 5 * place)`. The anchor is the site of vertex 1, and a
+/// slot is that of a vertex's site among the neighbours of its parent's site. It takes no memory.
 pub fn encode(graph: &Graph, process: ProcId, pattern: &Pattern, placement: &Placement) -> u128
     requires process { process.0 < 1024 }
     requires placed { HasCode graph.now pattern.now (site_numbers placement.now) }
@@ -68,7 +70,7 @@ fn slot_in_code(code: u128, place: u8) -> u8
     ((code >> (35 - 5 * place)) % 32) as u8
 }
 
-/// The placement of a code. It takes no memory.
+/// The placement of a code of this pattern on this lattice. It takes no memory.
 pub fn decode(graph: &Graph, pattern: &Pattern, code: u128) -> Placement
     requires { (process : ℕ) × (sites : List ℕ) × IsCode graph.now pattern.now code process sites }
     ensures { (process : ℕ) (sites : List ℕ) → IsCode graph.now pattern.now code process sites

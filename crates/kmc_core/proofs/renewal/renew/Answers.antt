@@ -23,9 +23,9 @@ loop-offer-preserved c =
     let at : option_copied c.entry_of-entry.result ≡ entry_at offer.0 old =
     c.entry_of-entry.ensures ∙ (same offer.0 (omega arith) ∙ found.0) in
     let is = c.renewed_entry.ensures.value ∙ ap (λ e. kept_or (Some c.args.first.1) e (fresh c.loop-offer.draws c.args.event c.args.first.0 offer)) at in
-    let whole = subst (λ (os : List (ℕ × Option ℤ)). c.loop-offer.entries.items ++ renewed c.loop-offer.draws c.args.event old c.args.first os ≡ renewed c.args.draws.now c.args.event old c.args.first offers) cut kept.done in
+    let whole = subst (λ (os : List (ℕ × Option ℤ)). c.loop-offer.entries ++ renewed c.loop-offer.draws c.args.event old c.args.first os ≡ renewed c.args.draws.now c.args.event old c.args.first offers) cut kept.done in
     record {
-      done = rw c.renewed_entry.ensures.seed (renewed_more c.loop-offer.draws c.args.event old c.args.first c.loop-offer.entries.items c.push.new.self.items _ _ offer others c.in_ok-push.ensures.items is whole);
+      done = rw c.renewed_entry.ensures.seed (renewed_more c.loop-offer.draws c.args.event old c.args.first c.loop-offer.entries c.push.new.self _ _ offer others c.in_ok-push.ensures.ok is whole);
       seed = c.renewed_entry.ensures.seed ∙ kept.seed;
       rest = c.skip_below-rest.ensures.rising;
       found = found_later old c.loop-offer.rest.now c.skip_below-rest.result.now offer.0 others rising.0 same found.1;

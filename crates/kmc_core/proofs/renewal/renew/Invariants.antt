@@ -9,7 +9,7 @@ use Rattle.kmc_core.proofs.renewal.renew.Given as goal
 -- left, what is left of the old entries has what all of them have
 abbrev pub invariant-loop-offer : goal.invariant-loop-offer
 invariant-loop-offer l = record {
-  done : l.entries.items ++ renewed l.draws l.event l.old l.first (drop l.offer-index l.offers) ≡ renewed l.fn.draws l.event l.old l.first l.offers;
+  done : l.entries ++ renewed l.draws l.event l.old l.first (drop l.offer-index l.offers) ≡ renewed l.fn.draws l.event l.old l.first l.offers;
   seed : l.draws ≡ l.fn.draws;
   rest : IsRising (codes_of l.rest);
   found : AllByRecursion (λ offer. entry_at offer.0 l.rest ≡ entry_at offer.0 l.old) (drop l.offer-index l.offers);

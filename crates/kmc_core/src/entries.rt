@@ -1,0 +1,97 @@
+ghost use Rattle.std.specs.Prelude.{◌≡◌, ◌++◌, ◌∷◌, [], OnOk, OnErr};
+ghost use Rattle.kmc_base.specs.Entries.{least as least_of, moment_of, first_of_two};
+
+use kmc_base::{Entry, OutOfMemory, When};
+use std::alloc::Global;
+use std::marker::Model;
+
+/// Entries, of which the least by (time, code) is known. A contract sees them as their list.
+#[derive(Debug, Drop)]
+pub(crate) struct Entries {
+    items: Vec<Entry>,
+    least: Option<(u128, u128)>,
+}
+
+impl Model for Entries {
+    ghost use Rattle.std.specs.Prelude.{◌≡◌, List};
+    ghost use Rattle.kmc_base.specs.Entries.{least as least_of};
+    ghost use Rattle.kmc_base.specs.declared.entry.Entry.{Entry};
+
+    ghost Value = { List Entry };
+
+    ghost view = { λ e. e.items.items };
+
+    ghost invariant = { λ e. e.least ≡ least_of e.items.items };
+}
+
+/// The (time, code) of an entry that has a time.
+fn moment(entry: &Entry) -> Option<(u128, u128)>
+    ensures { result ≡ moment_of entry.now }
+{
+    match entry.when {
+        When::At(time) => Some((time, entry.code)),
+        When::Never => None,
+    }
+}
+
+/// The one of two that comes first by (time, code), if there is one.
+fn first(a: Option<(u128, u128)>, b: Option<(u128, u128)>) -> Option<(u128, u128)>
+    ensures { result ≡ first_of_two a b }
+{
+    match (a, b) {
+        (None, b) => b,
+        (a, None) => a,
+        (Some(a), Some(b)) => Some(if b < a { b } else { a }),
+    }
+}
+
+impl Entries {
+    /// No entries. It takes no memory.
+    pub(crate) fn none(alloc: Global) -> Entries
+        ensures { result ≡ [] }
+    {
+        Entries {
+            items: Vec::new(alloc),
+            least: None,
+        }
+    }
+
+    /// Takes all entries out. Their memory is kept.
+    pub(crate) fn clear(&mut self)
+        ensures { self.new ≡ [] }
+    {
+        self.items.clear();
+        self.least = None;
+    }
+
+    /// Takes memory for so many entries more.
+    pub(crate) fn reserve(&mut self, count: usize) -> Result<(), OutOfMemory>
+        ensures { self.new ≡ self.old }
+    {
+        Ok(self.items.reserve(count)?)
+    }
+
+    /// Adds an entry at the end.
+    pub(crate) fn push(&mut self, entry: Entry) -> Result<(), OutOfMemory>
+        ensures ok { OnOk result (self.new ≡ self.old ++ entry ∷ []) }
+        ensures err { OnErr result (self.new ≡ self.old) }
+    {
+        self.items.push(entry)?;
+        self.least = first(self.least, moment(&entry));
+        Ok(())
+    }
+
+    /// The entries in their order.
+    pub(crate) fn as_slice(&self) -> &[Entry]
+        ensures { result.now ≡ self.now }
+    {
+        self.items.as_slice()
+    }
+
+    /// The least (time, code) of the entries that have a time.
+    pub(crate) fn least(&self) -> Option<(u128, u128)>
+        ensures { result ≡ least_of self.now }
+    {
+        self.least
+    }
+}

@@ -1,0 +1,78 @@
+ghost use Rattle.std.specs.Prelude.{◌≡◌, ◌^◌, ◌≤◌, OnOk, length, []};
+ghost use Rattle.kmc_base.specs.Entries.{IsRising, codes_of};
+ghost use Rattle.kmc_core.specs.Deck.{IsSound};
+ghost use Rattle.kmc_core.specs.PlainSystem.{system_of};
+ghost use Rattle.kmc_core.specs.Trajectory.{renewed};
+ghost use Rattle.lattice_core.specs.Lattice.{site_count};
+
+use crate::deck::PlainDeck;
+use crate::entries::Entries;
+use crate::listing::{Offer, list_instances};
+use crate::renewal::renew;
+use kmc_base::OutOfMemory;
+use lattice_core::Config;
+use named_draws::Draws;
+use std::alloc::Global;
+
+/// The entries of a run before an event and after it, and the instances between them.
+///
+/// The three lists are filled again at each event, in the memory that they have.
+#[derive(Debug, Drop)]
+pub(crate) struct EntryLists {
+    pub(crate) current: Entries,
+    pub(crate) next: Entries,
+    offers: Vec<Offer>,
+}
+
+impl EntryLists {
+    /// No entries. It takes no memory.
+    pub(crate) fn none(alloc: Global) -> EntryLists
+        ensures { result.current ≡ [] }
+    {
+        EntryLists {
+            current: Entries::none(alloc),
+            next: Entries::none(alloc),
+            offers: Vec::new(alloc),
+        }
+    }
+
+    /// Makes the next entries: those after an event that ended in a configuration, whose instances are listed anew.
+    pub(crate) fn renew(
+        &mut self,
+        alloc: Global,
+        deck: &PlainDeck,
+        config: &Config,
+        first: (u128, u128),
+        event: u64,
+    ) -> Result<(), OutOfMemory>
+        requires deck { IsSound deck.now }
+        requires configuration { length config.now ≡ site_count deck.now.graph }
+        requires time { first.0 ≤ 10 ^ 30 }
+        requires current { IsRising (codes_of self.old.current) }
+        ensures current { self.new.current ≡ self.old.current }
+        ensures next { OnOk result (self.new.next
+            ≡ renewed deck.now.plan.seed event self.old.current first ((system_of deck.now).offers config.now)) }
+    {
+        list_instances(&mut self.offers, alloc, deck, config)?;
+        let mut draws = Draws::new(deck.plan.seed);
+        renew(
+            &mut self.next,
+            self.current.as_slice(),
+            first,
+            &self.offers,
+            &mut draws,
+            event,
+        )
+    }
+
+    /// The next entries are the current ones from now on.
+    pub(crate) fn advanced(self) -> EntryLists
+        ensures { result.current ≡ self.next }
+    {
+        EntryLists {
+            current: self.next,
+            next: self.current,
+            offers: self.offers,
+        }
+    }
+}
