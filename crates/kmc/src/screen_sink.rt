@@ -4,8 +4,8 @@ use crate::transfer::write_whole;
 use kmc_base::{Failed, Sink};
 use std::io;
 
-/// The standard output as a screen. It counts its faults from 0, up to the end of 64 bits, and
-/// tells nothing of what it has taken.
+/// The standard output as a screen. It counts its faults from 0, up to 2^64 - 1, and tells nothing of
+/// what it has taken.
 #[derive(Drop)]
 pub struct ScreenSink<R> {
     runtime: R,

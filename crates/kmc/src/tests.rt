@@ -1,6 +1,8 @@
 use super::*;
+use crate::transfer::{read_whole, write_whole};
 use kmc_base::{Failed, FileId, Folder, LoadFault, OutId, Sink};
 use std::fs;
+use std::io::{Read, Write};
 use std::rt::Files;
 use std::test::Fail;
 
@@ -58,4 +60,92 @@ fn screen_takes_a_piece(rt: HostRuntime) {
     let mut screen = ScreenSink::new(&rt);
     assert_eq!(rt; screen.put(b"a piece\n"), Ok(()));
     assert_eq!(rt; screen.put(b""), Ok(()));
+}
+
+/// Bytes that come and go one at a call. Every other call is interrupted, the first among them, and that of a number
+/// fails.
+#[derive(Debug, Drop)]
+struct Slow {
+    bytes: Vec<u8>,
+    done: usize,
+    calls: u64,
+    failing: u64,
+}
+
+impl Slow {
+    /// Counts a call, and says whether it goes on.
+    fn call(&mut self) -> io::Result<()> {
+        self.calls = self.calls.saturating_add(1);
+        if self.calls == self.failing {
+            Err(io::Error::from(ErrorKind::Other))
+        } else if self.calls % 2 == 1 {
+            Err(io::Error::from(ErrorKind::Interrupted))
+        } else {
+            Ok(())
+        }
+    }
+}
+
+impl Read for Slow {
+    fn read(&mut self, buf: &mut [u8]) -> io::Result<usize> {
+        self.call()?;
+        match (self.bytes.get(self.done), buf.first_mut()) {
+            (Some(byte), Some(place)) => {
+                *place = *byte;
+                self.done = self.done.saturating_add(1);
+                Ok(1)
+            }
+            _ => Ok(0),
+        }
+    }
+}
+
+impl Write for Slow {
+    fn write(&mut self, buf: &[u8]) -> io::Result<usize> {
+        self.call()?;
+        match buf.first() {
+            Some(byte) => {
+                self.bytes.push(*byte)?;
+                Ok(1)
+            }
+            None => Ok(0),
+        }
+    }
+
+    fn flush(&mut self) -> io::Result<()> {
+        Ok(())
+    }
+}
+
+#[test]
+fn goes_on_after_an_interruption(rt: HostRuntime) -> Result<(), Fail> {
+    for (failing, is_read, written) in [(0, true, "abc"), (4, false, "a")] {
+        let mut from = Slow {
+            bytes: b"abc".to_vec(rt.alloc())?,
+            done: 0,
+            calls: 0,
+            failing,
+        };
+        match read_whole(rt.alloc(), &mut from, 3) {
+            Ok(bytes) => assert_eq!(rt; (bytes.as_slice(), is_read), (b"abc".as_slice(), true)),
+            Err(fault) => assert_eq!(rt; (fault, is_read), (LoadFault::Failed, false)),
+        }
+        let mut to = Slow {
+            bytes: Vec::new(rt.alloc()),
+            done: 0,
+            calls: 0,
+            failing,
+        };
+        assert_eq!(rt; write_whole(&mut to, b"abc").is_ok(), is_read);
+        assert_eq!(rt; to.bytes.as_slice(), written.as_bytes());
+    }
+    Ok(())
+}
+
+#[test]
+fn words_that_could_not_be_read(rt: HostRuntime) {
+    let no_memory = io::Error::from(ErrorKind::OutOfMemory);
+    assert_eq!(rt; without_words(&no_memory), Status::OutOfMemory);
+    let no_text = io::Error::from(ErrorKind::InvalidData);
+    assert_eq!(rt; without_words(&no_text), Status::BadWords);
 }

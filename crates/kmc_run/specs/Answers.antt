@@ -1,9 +1,10 @@
 -- What the program may answer, and what it leaves in the outputs.
-use Rattle.std.specs.Prelude.{◌≡◌, ℕ, [], ◌∷◌, Bool, false, List, Option, None, Some, Result, Ok, Err, codes}
+use Rattle.std.specs.Prelude.{◌≡◌, ℕ, [], ◌∷◌, Bool, false, List, Option, None, Some, IfSome, Result, Ok, Err, codes}
 use Rattle.deck_shape.specs.Tables.{same_word}
 use Rattle.deck_shape.specs.declared.fault.Fault.{Fault}
 use Rattle.kmc_base.specs.Outs.{Outs}
 use Rattle.kmc_base.specs.declared.ids.FileId.{FileId}
+use Rattle.kmc_base.specs.declared.ids.FileId.TheVariants.{Simulation, Lattice, Energetics, Mechanism, State}
 use Rattle.kmc_base.specs.declared.ids.OutId.{OutId}
 use Rattle.kmc_core.specs.declared.deck.PlainDeck.{PlainDeck}
 use Rattle.kmc_run.specs.Samples.{writes_of}
@@ -27,6 +28,18 @@ failed_read (Refused fault) = None
 failed_read (WriteFault out) = None
 failed_read ScreenFault = None
 failed_read OutOfMemory = None
+
+-- the files that a deck is read from
+abbrev pub IsOfDeck : FileId → Type 0
+IsOfDeck Simulation = Unit {0}
+IsOfDeck Lattice = Unit {0}
+IsOfDeck Energetics = Unit {0}
+IsOfDeck Mechanism = Unit {0}
+IsOfDeck State = ⊥
+
+-- no file but those of a deck is read: if one could not be read, it is one of them
+abbrev pub ReadsDeck : Status → Type 0
+ReadsDeck status = IfSome (failed_read status) IsOfDeck
 
 -- the output that could not be written, by a status
 abbrev pub failed_write : Status → Option OutId

@@ -1,4 +1,4 @@
--- The deck that four texts stand for, or its first fault.
+-- The deck that four texts stand for, or its first fault. A file is "built" where kmc can run what it asks for today.
 use Rattle.std.specs.Prelude.{◌≡◌, ℕ, ◌*◌, ◌^◌, ◌&&◌, Bool, true, false, not, List, [], ◌∷◌, map, Option, None, Some, Result, Ok, Err, if◌then◌else◌, is_none, length, pos}
 use Rattle.deck_shape.specs.LineFaults.{block_of_text}
 use Rattle.deck_shape.specs.Names.{NameWord}
@@ -98,7 +98,7 @@ is_on_time (Event period) = false
 is_on_time (Time period) = true
 
 -- A simulation file is built where it has no snapshots and no process statistics, species numbers are not sampled at
--- times, and the time has no end.
+-- times, and max_time is infinity.
 unfoldable pub is_built : SimValues → Bool
 is_built values =
     is_off values.plan.history
@@ -108,7 +108,7 @@ is_built values =
 abbrev pub words_of : List NameWord → List (List ℕ)
 words_of names = map (λ name. name.word.bytes) names
 
--- the species of a simulation file
+-- the species of a simulation file, with the dentates of the surface species
 abbrev pub book_of : SimValues → Book
 book_of values = record { gas = words_of values.gas; surface = words_of values.surface; dentates = values.dentates }
 

@@ -43,7 +43,7 @@ abbrev pub sample_line : PlainDeck → ℕ → ℕ → Snapshot (List State) →
 sample_line deck period event s =
     specnum_line (event / period) event s.time deck.temperature (adsorbates deck s.state) (replicate deck.gas 0)
 
--- the events from one sample to the next, where an output is sampled at events
+-- how many events it is from one sample to the next, where an output is sampled at events
 abbrev pub event_period : Sampling → Option ℕ
 event_period Off = None
 event_period (Event period) = Some period
@@ -56,6 +56,7 @@ sample_at deck event period =
     then option_map_or (λ s. Append Specnum (sample_line deck period event s) ∷ []) (trajectory_of deck event) []
     else []
 
+-- the same by the plan of the deck: none where the output is not sampled at events
 abbrev pub writes_at : PlainDeck → ℕ → List Write
 writes_at deck event = option_map_or (sample_at deck event) (event_period deck.plan.specnum) []
 

@@ -1,4 +1,5 @@
--- The layout of specnum_output.txt: the numbers of adsorbates and of gas molecules.
+-- The layout of specnum_output.txt: the numbers of adsorbates and of gas molecules. Times are printed in s, temperatures
+-- in K and energies in eV.
 use Rattle.std.specs.Prelude.{ℕ, List, [], ◌∷◌, ◌++◌, codes, pos}
 use Rattle.std.specs.Fmt.{decimal}
 use Rattle.std.specs.List.{flat_map}

@@ -3,6 +3,7 @@ use Rattle.std.specs.Prelude.{ℕ}
 use Rattle.kmc_run.specs.declared.status.Status.{Status}
 use Rattle.kmc_run.specs.declared.status.Status.TheVariants.{Done, BadWords, Refused, ReadFault, WriteFault, ScreenFault, OutOfMemory}
 
+-- the number of each; 1 is none of them
 abbrev pub number_of_status : Status → ℕ
 number_of_status Done = 0
 number_of_status BadWords = 2

@@ -3,7 +3,7 @@ ghost use Rattle.kmc_run.specs.declared.drive_fault.DriveFault.TheVariants.{OutO
 
 use kmc_base::{OutId, OutOfMemory};
 
-/// Why a run did not end well.
+/// Why a run was broken off. What was written before stays.
 #[derive(Clone, Copy, Debug, PartialEq, Eq, Hash)]
 pub enum DriveFault {
     /// An output could not be written.

@@ -77,8 +77,13 @@ fn summary_of(alloc: Global, last: &Closed, stop: Stop) -> Result<Summary, OutOf
 
 /// Runs a sound deck to its end, and writes its outputs. Its plan is one whose samples are all written.
 ///
-/// The workers, how many anchors there have to be for each (`spread`) and the gate are for the
-/// threads that share the work of an event; the run does not depend on them.
+/// `WriteFault` comes only where the folder failed to begin that output or to add to it. After it and
+/// after `OutOfMemory` the outputs are what the writes before it make of them; of a piece that failed
+/// a front may be there, and an output that failed to begin may be empty.
+///
+/// The number of workers, `spread`, the least number of anchors of an event at which they share its
+/// work, and the gate, which is called between their steps, are there for threads. No thread is started
+/// yet: the run and its outputs are the same for all of them.
 pub fn drive<R: Threads + Sync, F: Folder, G: Gate + Sync>(
     _rt: &R,
     alloc: Global,

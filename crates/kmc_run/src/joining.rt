@@ -1,7 +1,7 @@
 //! From the texts of the files to the deck, or its first fault.
 
-ghost use Rattle.std.specs.Prelude.{◌≡◌, ◌≤◌, ◌<◌, ◌-◌, ◌^◌, ◌++◌, IfOk, OnOk, length, map, nat_le, true};
-ghost use Rattle.std.specs.List.{AllByRecursion, list_all};
+ghost use Rattle.std.specs.Prelude.{◌≡◌, ◌≤◌, ◌<◌, ◌-◌, IfOk, OnOk, length, map, true};
+ghost use Rattle.std.specs.List.{AllByRecursion};
 ghost use Rattle.deck_shape.specs.Names.{name_at};
 ghost use Rattle.deck_shape.specs.declared.fault.DeckFault.TheVariants.{Fault as Faulty};
 ghost use Rattle.kmc_base.specs.declared.ids.FileId.TheVariants.{Mechanism};

@@ -1,6 +1,6 @@
 ghost use Rattle.std.specs.Prelude.{◌≡◌, IfOk, IfErr, IfSome, OnOk};
 ghost use Rattle.kmc_base.specs.Faults.{OnlyFailed, SameCounts};
-ghost use Rattle.kmc_run.specs.Answers.{IsLoadFault, failed_read};
+ghost use Rattle.kmc_run.specs.Answers.{IsLoadFault, IsOfDeck, ReadsDeck, failed_read};
 ghost use Rattle.kmc_run.specs.Texts.{IsShort, text_of, texts_of};
 
 use crate::status::Status;
@@ -16,6 +16,7 @@ fn load_text<F: Folder>(alloc: Global, folder: &mut F, file: FileId) -> Result<T
     ensures text { IfOk result (λ text. IfSome (F.files folder.old) (λ told. text ≡ text_of told file)) }
     ensures short { IfOk result IsShort }
     ensures fault { IfErr result IsLoadFault }
+    ensures of_deck { IsOfDeck file → IfErr result ReadsDeck }
     ensures cause { IfErr result (λ status. OnlyFailed (failed_read status) (F.read_faults folder.old) (F.read_faults folder.new)) }
     ensures no_fault { OnOk result (SameCounts (F.read_faults folder.old) (F.read_faults folder.new)) }
     ensures writes { SameCounts (F.write_faults folder.old) (F.write_faults folder.new) }
@@ -36,6 +37,7 @@ pub(crate) fn load_texts<F: Folder>(alloc: Global, folder: &mut F) -> Result<Tex
     ensures texts { IfOk result (λ texts. IfSome (F.files folder.old) (λ told. texts ≡ texts_of told)) }
     ensures short { IfOk result (λ texts. IsShort texts.simulation × IsShort texts.lattice) }
     ensures fault { IfErr result IsLoadFault }
+    ensures of_deck { IfErr result ReadsDeck }
     ensures cause { IfErr result (λ status. OnlyFailed (failed_read status) (F.read_faults folder.old) (F.read_faults folder.new)) }
     ensures no_fault { OnOk result (SameCounts (F.read_faults folder.old) (F.read_faults folder.new)) }
     ensures writes { SameCounts (F.write_faults folder.old) (F.write_faults folder.new) }

@@ -1,6 +1,6 @@
-ghost use Rattle.std.specs.Prelude.{◌≡◌, ◌≢◌, ◌↔◌, false, true, IfSome, IsTrue, map, string_bytes};
+ghost use Rattle.std.specs.Prelude.{◌≡◌, ◌≢◌, ◌↔◌, false, true, IfSome, map, string_bytes};
 ghost use Rattle.kmc_base.specs.Faults.{OnlyFailed};
-ghost use Rattle.kmc_run.specs.Answers.{are_right, failed_read, failed_write, KeepsOuts, Leaves, MayAnswer};
+ghost use Rattle.kmc_run.specs.Answers.{are_right, failed_read, failed_write, KeepsOuts, Leaves, MayAnswer, ReadsDeck};
 ghost use Rattle.kmc_run.specs.PlainDecks.{deck_of_files};
 
 use crate::drive_fault::DriveFault;
@@ -35,6 +35,7 @@ fn run<R: Threads + Sync, F: Folder, G: Gate + Sync>(
     ensures outs { IfSome (F.files folder.old) (λ told. Leaves (deck_of_files told) result (F.outs folder.old) (F.outs folder.new)) }
     ensures kept { KeepsOuts result (F.outs folder.old) (F.outs folder.new) }
     ensures reads { OnlyFailed (failed_read result) (F.read_faults folder.old) (F.read_faults folder.new) }
+    ensures of_deck { ReadsDeck result }
     ensures writes { OnlyFailed (failed_write result) (F.write_faults folder.old) (F.write_faults folder.new) }
     ensures files { F.files folder.new ≡ F.files folder.old }
     ensures words { result ≢ Status.BadWords }
@@ -77,6 +78,8 @@ pub fn run_program<R: Threads + Sync, F: Folder, S: Sink, G: Gate + Sync>(
     ensures kept { KeepsOuts result (F.outs folder.old) (F.outs folder.new) }
     // A fault of reading or writing is answered exactly where it came in this call, and it is the only one.
     ensures reads { OnlyFailed (failed_read result) (F.read_faults folder.old) (F.read_faults folder.new) }
+    // The file of a fault of reading is one of those of a deck: no other is read.
+    ensures of_deck { ReadsDeck result }
     ensures writes { OnlyFailed (failed_write result) (F.write_faults folder.old) (F.write_faults folder.new) }
     ensures files { F.files folder.new ≡ F.files folder.old }
     ensures screen { _screen.new ≡ _screen.old }

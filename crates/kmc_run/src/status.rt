@@ -25,7 +25,7 @@ pub enum Status {
 impl Status {
     ghost use Rattle.kmc_run.specs.Statuses.{number_of_status};
 
-    /// The exit status of the program.
+    /// The exit status of the program: 0 where all was done, else from 2 on.
     pub fn number(self) -> u8
         ensures { result ≡ number_of_status self }
     {

@@ -4,13 +4,13 @@ use kmc_core::Stop;
 /// What a run came to.
 #[derive(Debug, Drop)]
 pub struct Summary {
-    /// The number of its last event.
+    /// The number of its last event, which is how many have fired.
     pub events: u64,
     /// The time of that event, in as.
     pub time: u128,
-    /// The energy of the lattice, in neV.
+    /// The energy of the lattice at the end, in neV. It is 0 as long as adsorbates do not interact.
     pub energy: i128,
-    /// The number of adsorbates of each surface species.
+    /// The number of adsorbates of each surface species at the end.
     pub surface: Items<u64>,
     /// The gas molecules of each species produced, less those consumed.
     pub gas: Items<i64>,

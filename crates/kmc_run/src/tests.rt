@@ -6,6 +6,7 @@ use kmc_base::{FileId, MemoryFolder, MemorySink, OpenGate, OutId};
 use kmc_core::Stop;
 use std::alloc::Global;
 use std::marker::Sync;
+use std::process::Abort;
 use std::test::Fail;
 use std::thread::Threads;
 
@@ -91,6 +92,15 @@ fn folder(
     Ok(folder.with_room(1000).map_err(|(_, error)| error)?)
 }
 
+/// A word, so many times.
+fn words_of(alloc: Global, word: &str, times: u8) -> Result<Vec<String>, Fail> {
+    let mut words = Vec::new(alloc);
+    for _ in 0..times {
+        words.push(String::from_str(alloc, word)?)?;
+    }
+    Ok(words)
+}
+
 /// The status of the program over a folder, where a word is given so many times.
 fn run<R: Threads + Sync>(
     rt: &R,
@@ -99,10 +109,7 @@ fn run<R: Threads + Sync>(
     times: u8,
     folder: &mut MemoryFolder,
 ) -> Result<Status, Fail> {
-    let mut words = Vec::new(alloc);
-    for _ in 0..times {
-        words.push(String::from_str(alloc, word)?)?;
-    }
+    let words = words_of(alloc, word, times)?;
     let mut screen = MemorySink::new(alloc, 0, Vec::new(alloc)).map_err(|(_, error)| error)?;
     Ok(run_program(rt, alloc, &words, folder, &mut screen, &OpenGate))
 }
@@ -110,6 +117,76 @@ fn run<R: Threads + Sync>(
 /// A refusal by the first fault.
 fn refused(file: FileId, line: u32, kind: u8) -> Status {
     Status::Refused(Fault { file, line, kind })
+}
+
+/// Looks at the status of the program over a folder, and at whether it begins its output.
+fn ends<R: Threads + Sync + Abort>(
+    rt: &R,
+    alloc: Global,
+    folder: &mut MemoryFolder,
+    word: &str,
+    times: u8,
+    status: Status,
+    begins: bool,
+) -> Result<(), Fail> {
+    assert_eq!(rt; run(rt, alloc, word, times, folder)?, status);
+    assert_eq!(rt; folder.output(OutId::Specnum).is_some(), begins);
+    Ok(())
+}
+
+/// Looks at what the program writes over a folder. An output that is not begun is an empty one here.
+fn completes<R: Threads + Sync + Abort>(
+    rt: &R,
+    alloc: Global,
+    folder: &mut MemoryFolder,
+    output: &str,
+) -> Result<(), Fail> {
+    assert_eq!(rt; run(rt, alloc, "run", 1, folder)?, Status::Done);
+    match folder.output(OutId::Specnum) {
+        Some(written) => assert_eq!(rt; written, output.as_bytes()),
+        None => assert!(rt; output.is_empty()),
+    }
+    Ok(())
+}
+
+/// Looks at what the program writes for a deck.
+fn writes<R: Threads + Sync + Abort>(
+    rt: &R,
+    alloc: Global,
+    simulation: &str,
+    lattice: &str,
+    mechanism: &str,
+    output: &str,
+) -> Result<(), Fail> {
+    let mut folder = folder(alloc, simulation, lattice, ENERGETICS, mechanism, 0, 0)?;
+    completes(rt, alloc, &mut folder, output)
+}
+
+/// Looks at the refusal of a deck.
+fn refuses<R: Threads + Sync + Abort>(
+    rt: &R,
+    alloc: Global,
+    simulation: &str,
+    lattice: &str,
+    energetics: &str,
+    mechanism: &str,
+    status: Status,
+) -> Result<(), Fail> {
+    let mut folder = folder(alloc, simulation, lattice, energetics, mechanism, 0, 0)?;
+    ends(rt, alloc, &mut folder, "run", 1, status, false)
+}
+
+/// Looks at the refusal of a deck whose simulation file has another text in the place of a line.
+fn refuses_with<R: Threads + Sync + Abort>(
+    rt: &R,
+    alloc: Global,
+    place: usize,
+    text: &str,
+    lattice: &str,
+    status: Status,
+) -> Result<(), Fail> {
+    let simulation = simulation_with(alloc, place, text)?;
+    refuses(rt, alloc, &simulation, lattice, ENERGETICS, FILLS, status)
 }
 
 #[test]
@@ -141,14 +218,8 @@ fn writes_the_samples_of_whole_runs(rt: HostRuntime) -> Result<(), Fail> {
             "",
         ),
     ];
-    let alloc = rt.alloc();
     for (simulation, mechanism, output) in RUNS {
-        let mut folder = folder(alloc, simulation, LATTICE, ENERGETICS, mechanism, 0, 0)?;
-        assert_eq!(rt; run(&rt, alloc, "run", 1, &mut folder)?, Status::Done);
-        match folder.output(OutId::Specnum) {
-            Some(written) => assert_eq!(rt; written, output.as_bytes()),
-            None => assert!(rt; output.is_empty()),
-        }
+        writes(&rt, rt.alloc(), simulation, LATTICE, mechanism, output)?;
     }
     Ok(())
 }
@@ -174,12 +245,9 @@ fn refuses_simulation_files(rt: HostRuntime) -> Result<(), Fail> {
         ),
         (10, "max_time 1.0\nfinish\n", 0, kind::NOT_BUILT),
     ];
-    let alloc = rt.alloc();
     for (place, text, line, kind) in CASES {
-        let simulation = simulation_with(alloc, place, text)?;
-        let mut folder = folder(alloc, &simulation, LATTICE, ENERGETICS, FILLS, 0, 0)?;
-        let status = run(&rt, alloc, "run", 1, &mut folder)?;
-        assert_eq!(rt; status, refused(FileId::Simulation, line, kind));
+        let status = refused(FileId::Simulation, line, kind);
+        refuses_with(&rt, rt.alloc(), place, text, LATTICE, status)?;
     }
     Ok(())
 }
@@ -200,14 +268,8 @@ fn runs_on_each_kind_of_lattice(rt: HostRuntime) -> Result<(), Fail> {
             "specnum 1\ncolumns sample event time temperature energy A* A\n0 0 0.000000000000000000 500.000 0.000000000 0 0\n1 1 0.000000000000000001 500.000 0.000000000 1 0\n2 2 0.000000000000000001 500.000 0.000000000 2 0\n",
         ),
     ];
-    let alloc = rt.alloc();
     for (lattice, output) in CASES {
-        let mut folder = folder(alloc, SAMPLED, lattice, ENERGETICS, FILLS, 0, 0)?;
-        assert_eq!(rt; run(&rt, alloc, "run", 1, &mut folder)?, Status::Done);
-        match folder.output(OutId::Specnum) {
-            Some(written) => assert_eq!(rt; written, output.as_bytes()),
-            None => assert!(rt; output.is_empty()),
-        }
+        writes(&rt, rt.alloc(), SAMPLED, lattice, FILLS, output)?;
     }
     Ok(())
 }
@@ -253,12 +315,15 @@ fn refuses_lattice_files(rt: HostRuntime) -> Result<(), Fail> {
             kind::NOT_BUILT,
         ),
     ];
-    let alloc = rt.alloc();
     for (place, text, lattice, file, line, kind) in CASES {
-        let simulation = simulation_with(alloc, place, text)?;
-        let mut folder = folder(alloc, &simulation, lattice, ENERGETICS, FILLS, 0, 0)?;
-        let status = run(&rt, alloc, "run", 1, &mut folder)?;
-        assert_eq!(rt; status, refused(file, line, kind));
+        refuses_with(
+            &rt,
+            rt.alloc(),
+            place,
+            text,
+            lattice,
+            refused(file, line, kind),
+        )?;
     }
     Ok(())
 }
@@ -312,16 +377,34 @@ fn refuses_with_the_first_fault(rt: HostRuntime) -> Result<(), Fail> {
             kind::NOT_BUILT,
         ),
     ];
-    let alloc = rt.alloc();
     for (simulation, lattice, energetics, mechanism, file, line, kind) in CASES {
-        let mut folder = folder(alloc, simulation, lattice, energetics, mechanism, 0, 0)?;
-        assert_eq!(rt;
-            run(&rt, alloc, "run", 1, &mut folder)?,
-            refused(file, line, kind)
-        );
-        assert!(rt; folder.output(OutId::Specnum).is_none());
+        let status = refused(file, line, kind);
+        refuses(
+            &rt,
+            rt.alloc(),
+            simulation,
+            lattice,
+            energetics,
+            mechanism,
+            status,
+        )?;
     }
     Ok(())
+}
+
+/// Looks at the answer of the program where this load and this append fail, and at whether it begins its output.
+fn answers<R: Threads + Sync + Abort>(
+    rt: &R,
+    alloc: Global,
+    simulation: &str,
+    word: &str,
+    times: u8,
+    load: u64,
+    append: u64,
+    status: Status,
+) -> Result<(), Fail> {
+    let mut folder = folder(alloc, simulation, LATTICE, ENERGETICS, FILLS, load, append)?;
+    ends(rt, alloc, &mut folder, word, times, status, append == 1)
 }
 
 #[test]
@@ -334,24 +417,27 @@ fn answers_with_its_cause(rt: HostRuntime) -> Result<(), Fail> {
         (SAMPLED, "walk", 1, 0, 0, Status::BadWords),
         (SAMPLED, "run", 0, 0, 0, Status::BadWords),
     ];
-    let alloc = rt.alloc();
-    for (simulation, word, times, load, append, expected) in CASES {
-        let mut folder = folder(alloc, simulation, LATTICE, ENERGETICS, FILLS, load, append)?;
-        assert_eq!(rt; run(&rt, alloc, word, times, &mut folder)?, expected);
-        assert_eq!(rt; folder.output(OutId::Specnum).is_some(), append == 1);
+    for (simulation, word, times, load, append, status) in CASES {
+        answers(
+            &rt,
+            rt.alloc(),
+            simulation,
+            word,
+            times,
+            load,
+            append,
+            status,
+        )?;
     }
     Ok(())
 }
 
 #[test]
 fn refuses_a_file_that_is_too_long(rt: HostRuntime) -> Result<(), Fail> {
-    let alloc = rt.alloc();
-    let long = String::from_utf8(vec![in alloc; b' '; 16_777_217]?)?;
-    let mut folder = folder(alloc, "finish\n", &long, ENERGETICS, "", 0, 0)?;
-    let status = run(&rt, alloc, "run", 1, &mut folder)?;
-    assert_eq!(rt; status, refused(FileId::Lattice, 0, kind::FILE_TOO_LONG));
+    let long = String::from_utf8(vec![in rt.alloc(); b' '; 16_777_217]?)?;
+    let status = refused(FileId::Lattice, 0, kind::FILE_TOO_LONG);
     assert_eq!(rt; status.number(), 3);
-    Ok(())
+    refuses(&rt, rt.alloc(), "finish\n", &long, ENERGETICS, "", status)
 }
 
 /// A simulation file of two species, of which the first has two dentates, with a sample at every second event.
@@ -362,15 +448,26 @@ const TWO_SPECIES: &str =
 const FILLS_SECOND: &str =
     "mechanism\nstep one\nsites 1\ninitial\n1 * 1\nfinal\n1 B* 1\npre_expon 1e300\nactiv_eng 0\nend_step\nend_mechanism\n";
 
+/// What the run of the deck of a folder comes to.
+fn driven<R: Threads + Sync>(
+    rt: &R,
+    alloc: Global,
+    folder: &mut MemoryFolder,
+) -> Result<Summary, Fail> {
+    let texts = load_texts(alloc, folder).ok().ok_or("a file was not read")?;
+    let deck = read_deck(alloc, &texts).ok().ok_or("a fault")?;
+    Ok(drive(rt, alloc, deck, folder, &OpenGate, 1, 64)?)
+}
+
+/// The summary of a deck of two species.
+fn summary_of_two<R: Threads + Sync>(rt: &R, alloc: Global) -> Result<Summary, Fail> {
+    let mut folder = folder(alloc, TWO_SPECIES, LATTICE, ENERGETICS, FILLS_SECOND, 0, 0)?;
+    driven(rt, alloc, &mut folder)
+}
+
 #[test]
 fn drives_a_deck_to_its_last_event(rt: HostRuntime) -> Result<(), Fail> {
-    let alloc = rt.alloc();
-    let mut folder = folder(alloc, TWO_SPECIES, LATTICE, ENERGETICS, FILLS_SECOND, 0, 0)?;
-    let texts = load_texts(alloc, &mut folder)
-        .ok()
-        .ok_or("a file was not read")?;
-    let deck = read_deck(alloc, &texts).ok().ok_or("a fault")?;
-    let summary = drive(&rt, alloc, deck, &mut folder, &OpenGate, 1, 64)?;
+    let summary = summary_of_two(&rt, rt.alloc())?;
     assert_eq!(rt; summary.events, 4);
     assert_eq!(rt; summary.time, 1);
     assert_eq!(rt; summary.energy, 0);
@@ -378,6 +475,18 @@ fn drives_a_deck_to_its_last_event(rt: HostRuntime) -> Result<(), Fail> {
     assert_eq!(rt; summary.gas.as_slice(), [0].as_slice());
     assert_eq!(rt; summary.stop, Stop::Still);
     Ok(())
+}
+
+/// The status of the program over a folder that has no file, of whose loads these two fail.
+fn status_of_failing<R: Threads + Sync>(
+    rt: &R,
+    alloc: Global,
+    loads: [u64; 2],
+) -> Result<Status, Fail> {
+    let failing = Vec::from_array(alloc, loads)?;
+    let none = Vec::new(alloc);
+    let mut folder = MemoryFolder::new(Vec::new(alloc), failing, none, Vec::new(alloc));
+    run(rt, alloc, "run", 1, &mut folder)
 }
 
 #[test]
@@ -388,12 +497,8 @@ fn answers_the_first_of_two_files_that_fail(rt: HostRuntime) -> Result<(), Fail>
         ([3, 2], FileId::Lattice),
         ([3, 4], FileId::Energetics),
     ];
-    let alloc = rt.alloc();
     for (loads, first) in CASES {
-        let failing = Vec::from_array(alloc, loads)?;
-        let none = Vec::new(alloc);
-        let mut folder = MemoryFolder::new(Vec::new(alloc), failing, none, Vec::new(alloc));
-        let status = run(&rt, alloc, "run", 1, &mut folder)?;
+        let status = status_of_failing(&rt, rt.alloc(), loads)?;
         assert_eq!(rt; status, Status::ReadFault(first));
     }
     Ok(())

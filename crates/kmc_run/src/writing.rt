@@ -44,7 +44,7 @@ fn append<F: Folder>(folder: &mut F, out: OutId, piece: &[u8]) -> Result<(), Dri
     }
 }
 
-/// The events from one sample to the next, where an output is sampled at events.
+/// How many events it is from one sample to the next, where an output is sampled at events.
 fn event_period(sampling: Sampling) -> Option<u64>
     ensures value { result ≡ event_period sampling }
     ensures some { IsPeriod sampling → IfSome result (λ period. 1 ≤ period) }
