@@ -1,4 +1,5 @@
 mod Below
+pub mod FileKinds
 mod FirstKinds
 pub mod FormTables
 mod Least
@@ -6,6 +7,7 @@ mod LineCounts
 pub mod Maps
 pub mod NameLists
 mod Powers
+mod ReadBlocks
 mod Repeats
 mod Rows
 mod ShapeFacts

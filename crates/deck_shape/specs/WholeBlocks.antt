@@ -1,4 +1,4 @@
--- What is true of the block of a lattice file that is read without faults of form.
+-- What is true of the block of a file that is read without faults of form.
 use Rattle.std.specs.Prelude.{◌≡◌, true, false, length, Some}
 use Rattle.std.specs.List.{AllByRecursion, list_any}
 use Rattle.deck_shape.specs.Blocks.{BlockLines, ItemLines}
@@ -25,8 +25,7 @@ pub record IsKnown (kind : BlockKind) (item : ItemLines) : Type 0 where
   pub has_rule : rule_for kind (head_of item.line) ≡ Some rule
   pub is_allowed : allows rule.arguments (length (arguments_of item.line)) ≡ true
 
--- a block of a lattice file that misses no word, and whose words have as many arguments as they take
+-- a block that misses no word, and whose words have as many arguments as they take
 pub record IsWhole (block : BlockLines) : Type 0 where
-  pub kind : IsLatticeKind block.kind
   pub known : AllByRecursion (IsKnown block.kind) block.items
   pub none_missing : list_any (is_missing block.items) (rules_of block.kind) ≡ false

@@ -122,6 +122,10 @@ fn reads_a_cell(rt: HostRuntime) -> Result<(), Fail> {
             item.rows.len(),
         ));
         assert_eq!(rt; vectors, Some((2, 0, 2)));
+        let head = block
+            .item(text, Keyword::CellVectors)
+            .map(|item| item.head(text));
+        assert_eq!(rt; head, Some(b"cell_vectors".as_slice()));
         assert!(rt; block.item(text, Keyword::SiteCoordinates).is_none());
     }
     Ok(())

@@ -14,7 +14,7 @@ use Rattle.lattice_cell.specs.declared.cell.Join.{Join}
 use Rattle.lattice_cell.specs.declared.cell.Toward.{Toward}
 use Rattle.lattice_cell.specs.declared.cell.Toward.TheVariants.{Own, North, Northeast, East, Southeast}
 use Rattle.deck_shape.specs.FirstFault.{fault_or, first_of_lines, line_fault}
-use Rattle.lattice_deck.specs.Words.{row_words, is_no_site}
+use Rattle.site_rows.specs.Words.{row_words, is_no_site}
 use Rattle.lattice_deck.specs.Faultless.{IsCell}
 use Rattle.lattice_deck.specs.Faults.{row_lines}
 use Rattle.lattice_deck.specs.Joins.{crowds_at, crowds_by, has_bad_end, join_kind, join_of, join_on, join_row_kind, joins_itself, joins_of, kind_or, leads_back, sound_join}

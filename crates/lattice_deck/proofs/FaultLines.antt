@@ -6,8 +6,8 @@ use Rattle.dec_text.specs.declared.lines.Line.{Line}
 use Rattle.deck_shape.specs.Blocks.{item_at}
 use Rattle.deck_shape.specs.declared.shape.Item.{Item}
 use Rattle.deck_shape.specs.FirstFault.{fault_or, first_of_lines, line_fault}
-use Rattle.lattice_deck.specs.Words.{row_words}
-use Rattle.lattice_deck.specs.Faults.{fault_among, item_lines, row_lines}
+use Rattle.site_rows.specs.Words.{row_words}
+use Rattle.lattice_deck.specs.Faults.{fault_among, item_fault, row_lines}
 use Rattle.lattice_deck.specs.declared.sizes.Sizes.{Sizes}
 use Rattle.lattice_deck.proofs.Maps.{next_mapped}
 
@@ -42,16 +42,16 @@ module _ (sizes : Sizes) (text : List ℕ) (items : List Item) (i : ℕ) (item :
   items_left : ℕ → Option (ℕ × ℕ)
   items_left k = fault_among sizes (map (item_at text) (drop k items))
 
-  next_item : items_left i ≡ fault_or (first_of_lines (item_lines sizes (item_at text item))) (items_left (i + 1))
+  next_item : items_left i ≡ fault_or (item_fault sizes (item_at text item)) (items_left (i + 1))
   unfolding items_left
   next_item = ap (fault_among sizes) (next_mapped (item_at text) items i item here is)
 
-  pub item_found : (fault : Option (ℕ × ℕ)) → fault ≡ first_of_lines (item_lines sizes (item_at text item)) → is_some fault ≡ true
+  pub item_found : (fault : Option (ℕ × ℕ)) → fault ≡ item_fault sizes (item_at text item) → is_some fault ≡ true
       → fault_among sizes (map (item_at text) (drop i items)) ≡ fault
   unfolding items_left
   item_found fault found some = next_item ∙ ap (λ f. fault_or f (items_left (i + 1))) (sym found) ∙ some_first fault (items_left (i + 1)) some
 
-  pub item_passed : (fault : Option (ℕ × ℕ)) → fault ≡ first_of_lines (item_lines sizes (item_at text item)) → is_some fault ≡ false
+  pub item_passed : (fault : Option (ℕ × ℕ)) → fault ≡ item_fault sizes (item_at text item) → is_some fault ≡ false
       → fault_among sizes (map (item_at text) (drop (i + 1) items)) ≡ fault_among sizes (map (item_at text) (drop i items))
   unfolding items_left
   item_passed fault found none = sym (next_item ∙ ap (λ f. fault_or f (items_left (i + 1))) (sym found) ∙ none_first fault (items_left (i + 1)) none)

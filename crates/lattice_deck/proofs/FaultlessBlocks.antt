@@ -27,16 +27,18 @@ use Rattle.deck_shape.specs.declared.table.BlockKind.TheVariants.{Simulation, La
 use Rattle.deck_shape.specs.declared.table.Rule.{Rule}
 use Rattle.kmc_base.specs.declared.ids.TheConstants.{MAX_SITES}
 use Rattle.lattice_cell.specs.declared.expand.DefaultLattice.TheVariants.{Hexagonal, Rectangular}
-use Rattle.deck_shape.specs.FirstFault.{first_of_lines}
 use Rattle.lattice_deck.specs.Faultless.{AreFaultless, HasDefault, IsDefault, IsDefaultOf}
-use Rattle.lattice_deck.specs.Faults.{fault_among, first_fault, form_lines, item_lines, rows_faults, word_kind}
+use Rattle.lattice_deck.specs.Faults.{fault_among, first_fault, form_fault, item_fault, rows_fault, word_kind}
 use Rattle.lattice_deck.specs.Joins.{crowds}
 use Rattle.lattice_deck.specs.Parts.{rows_in}
+use Rattle.lattice_deck.specs.RowKinds.{kind_of}
 use Rattle.lattice_deck.specs.Sizes.{gives_too_many, or_else, repeats_kind, repeats_of, sites_in, sizes_in, sound_repeats, stated, whole_of}
 use Rattle.lattice_deck.specs.declared.forms.Form.{Form}
 use Rattle.lattice_deck.specs.declared.forms.Form.TheVariants.{Number, Repeats, TypeNames, Types, Joins, SiteRows, Default}
 use Rattle.lattice_deck.specs.declared.forms.TheConstants.{FORMS, REPEAT, SITE_COUNT, TYPE_COUNT}
 use Rattle.lattice_deck.specs.declared.sizes.Sizes.{Sizes}
+use Rattle.site_rows.specs.RowFaults.{first_fault as first_row_fault}
+use Rattle.site_rows.specs.declared.faults.RowFault.{RowFault}
 use Rattle.lattice_deck.proofs.CellJoins.{both_none, line_none, same_count}
 use Rattle.deck_shape.proofs.Maps.{IfSome-find}
 use Rattle.lattice_deck.proofs.SizesSound.{neither, not_held, repeats_known, sizes_sound, whole_known}
@@ -51,14 +53,14 @@ find_standing p (item ∷ items) is =
           (rest.0, ap (λ b. cond b (Some item) (find p items)) none ∙ rest.1, rest.2)
     ]
 
--- its lines have no fault where no line has one
-item_none : (sizes : Sizes) (p : ItemLines → Bool) (items : List ItemLines) (item : ItemLines) → fault_among sizes items ≡ None → find p items ≡ Some item → first_of_lines (item_lines sizes item) ≡ None
+-- it has no fault where none of the word lines has one
+item_none : (sizes : Sizes) (p : ItemLines → Bool) (items : List ItemLines) (item : ItemLines) → fault_among sizes items ≡ None → find p items ≡ Some item → item_fault sizes item ≡ None
 item_none sizes p [] item none is = cc
 item_none sizes p (x ∷ items) item none is =
-    let parts = both_none (first_of_lines (item_lines sizes x)) (fault_among sizes items) none in
+    let parts = both_none (item_fault sizes x) (fault_among sizes items) none in
     elim (cases_Bool (p x)) [
       | inl here ↦ let e : Some x ≡ Some item = sym (ap (λ b. cond b (Some x) (find p items)) here) ∙ is in
-          let same : x ≡ item = cc in subst (λ i. first_of_lines (item_lines sizes i) ≡ None) same parts.0
+          let same : x ≡ item = cc in subst (λ i. item_fault sizes i ≡ None) same parts.0
       | inr other ↦ item_none sizes p items item parts.1 (sym (ap (λ b. cond b (Some x) (find p items)) other) ∙ is)
     ]
 
@@ -71,7 +73,7 @@ pub record IsFound (kind : BlockKind) (items : List ItemLines) (keyword : Keywor
   pub is : find (has_keyword keyword) items ≡ Some item
   pub word : head_of item.line ≡ spelling keyword
   pub known : IsKnown kind item
-  pub none : first_of_lines (item_lines (sizes_in items) item) ≡ None
+  pub none : item_fault (sizes_in items) item ≡ None
 
 found : (kind : BlockKind) (items : List ItemLines) (keyword : Keyword) → AllByRecursion (IsKnown kind) items → fault_among (sizes_in items) items ≡ None → stands keyword items ≡ true → IsFound kind items keyword
 found kind items keyword all none standing =
@@ -103,11 +105,11 @@ module _ (kind : BlockKind) (items : List ItemLines) (keyword : Keyword) (f : Is
       ap (allows rule.arguments) (length-map (arguments_of f.item.line) (λ (word : Run). word.bytes)) ∙ ap (λ r. allows r.arguments (length (arguments_of f.item.line))) (sym same) ∙ f.known.is_allowed
 
   -- no fault, by the form of the keyword
-  formed : (form : Form) → form_of FORMS (spelling keyword) ≡ Some form → (word_kind (sizes_in items) form f.item ≡ None) × (first_of_lines (rows_faults (sizes_in items) form f.item.rows) ≡ None)
+  formed : (form : Form) → form_of FORMS (spelling keyword) ≡ Some form → (word_kind (sizes_in items) form f.item ≡ None) × (rows_fault (sizes_in items) form f.item.rows ≡ None)
   formed form is_form =
       let e : form_of FORMS (head_of f.item.line) ≡ Some form = ap (form_of FORMS) f.word ∙ is_form in
-      let lines : first_of_lines (form_lines (sizes_in items) f.item form) ≡ None = sym (ap (λ r. first_of_lines (option_map_or (form_lines (sizes_in items) f.item) r [])) e) ∙ f.none in
-      line_none f.item.line.number (word_kind (sizes_in items) form f.item) (first_of_lines (rows_faults (sizes_in items) form f.item.rows)) lines
+      let none : form_fault (sizes_in items) f.item form ≡ None = sym (ap (option_and_then (form_fault (sizes_in items) f.item)) e) ∙ f.none in
+      line_none f.item.line.number (word_kind (sizes_in items) form f.item) (rows_fault (sizes_in items) form f.item.rows) none
 
 one_word : (words : List (List ℕ)) → length words ≡ 1 → (w : List ℕ) × (words ≡ w ∷ [])
 one_word [] is = absurd (omega arith)
@@ -217,8 +219,13 @@ module _ (items : List ItemLines) (known : AllByRecursion (IsKnown PeriodicCell)
         few_names = names_few PeriodicCell items t n (eqb-true (length (words_of t.item)) 1 (counted PeriodicCell items NSiteTypes t _ refl));
         one_type_each = ap (λ ws. has_other_length (sizes_in items).sites (length ws)) (list_behind PeriodicCell items SiteTypes l) ∙ not_held (has_other_length (sizes_in items).sites (length (words_of l.item))) LIST_LENGTH ((formed PeriodicCell items SiteTypes l Types refl).0);
         few_neighbours = ap (crowds (sizes_in items)) (rows_behind PeriodicCell items NeighboringStructure j) ∙ not_held (crowds (sizes_in items) j.item.rows) TOO_MANY_NEIGHBOURS joins.0;
-        sound_rows = ap (λ rows. first_of_lines (rows_faults (sizes_in items) Joins rows)) (rows_behind PeriodicCell items NeighboringStructure j) ∙ joins.1;
+        sound_rows = ap (rows_fault (sizes_in items) Joins) (rows_behind PeriodicCell items NeighboringStructure j) ∙ joins.1;
       }
+
+-- no kind of a fault of rows, no fault
+no_row_fault : (fault : Option (ℕ × RowFault)) → option_map {U = ℕ × ℕ} (λ f. (f.0, kind_of f.1)) fault ≡ None → fault ≡ None
+no_row_fault None none = refl
+no_row_fault (Some fault) none = absurd (cc)
 
 -- a list of sites
 module _ (items : List ItemLines) (known : AllByRecursion (IsKnown Explicit) items) (none : fault_among (sizes_in items) items ≡ None) where
@@ -236,7 +243,7 @@ module _ (items : List ItemLines) (known : AllByRecursion (IsKnown Explicit) ite
         has_sites = some_else (stated NCellSites MAX_SITES items) (stated NSites MAX_SITES items) (ap is_some one);
         few_names = names_few Explicit items t n (eqb-true (length (words_of t.item)) 1 (counted Explicit items NSiteTypes t _ refl));
         one_row_each = ap (λ rs. has_other_length (sizes_in items).sites (length rs)) (rows_behind Explicit items LatticeStructure j) ∙ not_held (has_other_length (sizes_in items).sites (length j.item.rows)) ROW_COUNT rows.0;
-        sound_rows = ap (λ rs. first_of_lines (rows_faults (sizes_in items) SiteRows rs)) (rows_behind Explicit items LatticeStructure j) ∙ rows.1;
+        sound_rows = ap (first_row_fault (sizes_in items).sites) (rows_behind Explicit items LatticeStructure j) ∙ no_row_fault (first_row_fault (sizes_in items).sites j.item.rows) rows.1;
       }
 
 -- no word of a block is missing
@@ -262,5 +269,5 @@ by_kind LatticeFile items is known missing none = absurd is
 by_kind NeighboringRows items is known missing none = absurd is
 by_kind LatticeRows items is known missing none = absurd is
 
-pub faultless : (block : BlockLines) → IsWhole block → first_fault block ≡ None → AreFaultless block.kind block.items
-faultless block whole none = by_kind block.kind block.items whole.kind whole.known whole.none_missing none
+pub faultless : (block : BlockLines) → IsLatticeKind block.kind → IsWhole block → first_fault block ≡ None → AreFaultless block.kind block.items
+faultless block kind whole none = by_kind block.kind block.items kind whole.known whole.none_missing none

@@ -5,17 +5,10 @@ mod DefaultWords
 mod Displacements
 mod FaultLines
 mod FaultlessBlocks
-mod FaultlessRows
 mod FormTable
 mod JoinLists
 mod JoinedSites
-mod ListedLattice
 mod Maps
-mod NumberLists
-mod Placed
-mod RowLookups
-mod RowWords
-mod Searches
 mod SizesSound
 mod SoundNeighbours
 mod TypeWords

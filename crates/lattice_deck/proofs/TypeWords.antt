@@ -7,7 +7,7 @@ use Rattle.dec_text.specs.Spans.{bytes_at}
 use Rattle.deck_shape.specs.Names.{NameWord, name_at}
 use Rattle.deck_shape.specs.declared.kind.TheConstants.{UNKNOWN_TYPE}
 use Rattle.deck_shape.specs.declared.name.Name.{Name}
-use Rattle.lattice_deck.specs.Types.{type_of}
+use Rattle.site_rows.specs.TypeWords.{type_of}
 use Rattle.lattice_deck.specs.Types.{unknown_type}
 
 option_twice : {X Y Z : Type 0} (f : Y → Z) (h : X → Y) (o : Option X) → option_map (λ x. f (h x)) o ≡ option_map f (option_map h o)

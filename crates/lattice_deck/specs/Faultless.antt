@@ -8,12 +8,12 @@ use Rattle.deck_shape.specs.declared.keyword.Keyword.TheVariants.{HexagonalPerio
 use Rattle.deck_shape.specs.declared.table.BlockKind.{BlockKind}
 use Rattle.deck_shape.specs.declared.table.BlockKind.TheVariants.{Simulation, LatticeFile, DefaultChoice, PeriodicCell, Explicit, NeighboringStructure as NeighboringRows, LatticeStructure as LatticeRows}
 use Rattle.deck_shape.specs.FirstFault.{first_of_lines}
-use Rattle.lattice_deck.specs.SiteRows.{site_rows_fault}
 use Rattle.lattice_deck.specs.Faults.{default_kind, row_lines}
 use Rattle.lattice_deck.specs.Joins.{crowds, join_kind}
 use Rattle.lattice_deck.specs.Parts.{rows_in}
 use Rattle.lattice_deck.specs.Sizes.{IsSizes, sizes_in}
 use Rattle.lattice_deck.specs.declared.sizes.Sizes.{Sizes}
+use Rattle.site_rows.specs.RowFaults.{first_fault as first_row_fault}
 
 -- the words of a default lattice: its lattice constant and its two repeats
 pub record IsDefault (words : List (List ℕ)) : Type 0 where
@@ -45,7 +45,7 @@ pub record IsExplicit (sizes : Sizes) (names : List (List ℕ)) (rows : List Wor
   pub has_sites : is_some sizes.sites ≡ true
   pub few_names : length names ≤ 1000
   pub one_row_each : has_other_length sizes.sites (length rows) ≡ false
-  pub sound_rows : site_rows_fault sizes.sites rows ≡ None
+  pub sound_rows : first_row_fault sizes.sites rows ≡ None
 
 -- the word lines of a block without a fault
 abbrev pub AreFaultless : BlockKind → List ItemLines → Type 0

@@ -1,6 +1,6 @@
 -- The faults of the values of a lattice file: which kind holds at each line, and which fault is the first.
-use Rattle.std.specs.Prelude.{ℕ, ◌==◌, ◌||◌, Bool, false, List, [], ◌∷◌, length, map, Option, None, Some}
-use Rattle.std.specs.Option.{option_map_or}
+use Rattle.std.specs.Prelude.{ℕ, ◌==◌, ◌||◌, Bool, false, List, [], ◌∷◌, length, map, Option, None, Some, option_and_then}
+use Rattle.std.specs.Option.{option_map}
 use Rattle.dec_text.specs.Lines.{WordLine}
 use Rattle.deck_shape.specs.Blocks.{BlockLines, ItemLines}
 use Rattle.deck_shape.specs.Forms.{form_of}
@@ -10,9 +10,8 @@ use Rattle.deck_shape.specs.Lists.{fault_if, has_other_length}
 use Rattle.deck_shape.specs.Numbers.{lesser, number_kind, numbers_kind}
 use Rattle.deck_shape.specs.declared.kind.TheConstants.{LIST_LENGTH, ROW_COUNT, SELF_NEIGHBOUR, TOO_MANY_NEIGHBOURS}
 use Rattle.deck_shape.specs.declared.number.Number.TheVariants.{Unused}
-use Rattle.deck_shape.specs.FirstFault.{fault_or, first_of_lines}
-use Rattle.lattice_deck.specs.Words.{row_words}
-use Rattle.lattice_deck.specs.SiteRows.{rows_of, site_lines}
+use Rattle.deck_shape.specs.FirstFault.{fault_or, first_of_lines, line_fault}
+use Rattle.lattice_deck.specs.RowKinds.{kind_of}
 use Rattle.lattice_deck.specs.Coordinates.{coordinates_kind}
 use Rattle.lattice_deck.specs.Joins.{crowds, join_kind}
 use Rattle.lattice_deck.specs.Sizes.{repeats_kind, repeats_of, sizes_in}
@@ -23,6 +22,8 @@ use Rattle.lattice_deck.specs.declared.forms.RowCount.{RowCount}
 use Rattle.lattice_deck.specs.declared.forms.RowCount.TheVariants.{Exactly, OnePerSite}
 use Rattle.lattice_deck.specs.declared.forms.TheConstants.{FORMS}
 use Rattle.lattice_deck.specs.declared.sizes.Sizes.{Sizes}
+use Rattle.site_rows.specs.RowFaults.{first_fault as first_row_fault}
+use Rattle.site_rows.specs.Words.{row_words}
 
 -- how many rows a word should have, where that is known
 abbrev pub row_count : Sizes → RowCount → Option ℕ
@@ -59,29 +60,33 @@ word_kind sizes (Default kind) item = default_kind (words_of item)
 abbrev pub row_lines : (List (List ℕ) → Option ℕ) → List WordLine → List (ℕ × Option ℕ)
 row_lines kind rows = map (λ row. (row.number, kind (row_words row))) rows
 
--- the lines of the rows of a word, with their faults
-abbrev pub rows_faults : Sizes → Form → List WordLine → List (ℕ × Option ℕ)
-rows_faults sizes (Number number) rows = []
-rows_faults sizes Repeats rows = []
-rows_faults sizes TypeNames rows = []
-rows_faults sizes Types rows = []
-rows_faults sizes (Coordinates count) rows = row_lines coordinates_kind rows
-rows_faults sizes Joins rows = row_lines (join_kind sizes) rows
-rows_faults sizes SiteRows rows = site_lines sizes.sites [] (rows_of rows) rows
-rows_faults sizes (Default kind) rows = []
+-- the first fault of rows of sites, by its kind
+abbrev pub site_rows_fault : Option ℕ → List WordLine → Option (ℕ × ℕ)
+site_rows_fault sites rows = option_map (λ fault. (fault.0, kind_of fault.1)) (first_row_fault sites rows)
 
--- the lines of a word of this form and of its rows, with their faults
-abbrev pub form_lines : Sizes → ItemLines → Form → List (ℕ × Option ℕ)
-form_lines sizes item form = (item.line.number, word_kind sizes form item) ∷ rows_faults sizes form item.rows
+-- the first fault of the rows of a word of this form
+abbrev pub rows_fault : Sizes → Form → List WordLine → Option (ℕ × ℕ)
+rows_fault sizes (Number number) rows = None
+rows_fault sizes Repeats rows = None
+rows_fault sizes TypeNames rows = None
+rows_fault sizes Types rows = None
+rows_fault sizes (Coordinates count) rows = first_of_lines (row_lines coordinates_kind rows)
+rows_fault sizes Joins rows = first_of_lines (row_lines (join_kind sizes) rows)
+rows_fault sizes SiteRows rows = site_rows_fault sizes.sites rows
+rows_fault sizes (Default kind) rows = None
+
+-- the first fault of a word of this form and of its rows
+abbrev pub form_fault : Sizes → ItemLines → Form → Option (ℕ × ℕ)
+form_fault sizes item form = fault_or (line_fault item.line.number (word_kind sizes form item)) (rows_fault sizes form item.rows)
 
 -- the same by the form of the word; none where the table has no such word
-abbrev pub item_lines : Sizes → ItemLines → List (ℕ × Option ℕ)
-item_lines sizes item = option_map_or (form_lines sizes item) (form_of FORMS (head_of item.line)) []
+abbrev pub item_fault : Sizes → ItemLines → Option (ℕ × ℕ)
+item_fault sizes item = option_and_then (form_fault sizes item) (form_of FORMS (head_of item.line))
 
 -- the fault of the first of some word lines that has one
 abbrev pub fault_among : Sizes → List ItemLines → Option (ℕ × ℕ)
 fault_among sizes [] = None
-fault_among sizes (item ∷ items) = fault_or (first_of_lines (item_lines sizes item)) (fault_among sizes items)
+fault_among sizes (item ∷ items) = fault_or (item_fault sizes item) (fault_among sizes items)
 
 -- the first fault of the block of a lattice file
 abbrev pub first_fault : BlockLines → Option (ℕ × ℕ)

@@ -3,7 +3,9 @@
 use Rattle.std.specs.Prelude.{ℕ, ◌-◌, ◌==◌, ◌&&◌, ◌||◌, Bool, true, false, List, [], ◌∷◌, length, Option, None, Some, codes, if◌then◌else◌, nat_lt, option_and_then}
 use Rattle.std.specs.List.{after_first, before_first, list_any}
 use Rattle.std.specs.Option.{option_map}
+use Rattle.std.specs.Result.{result_ok}
 use Rattle.dec_text.specs.Lines.{WordLine}
+use Rattle.dec_text.specs.Wholes.{whole_number}
 use Rattle.deck_shape.specs.Tables.{same_word}
 use Rattle.deck_shape.specs.declared.kind.TheConstants.{BAD_EDGE, ROW_FORM, SELF_NEIGHBOUR}
 use Rattle.lattice_cell.specs.Cells.{displaced}
@@ -12,9 +14,9 @@ use Rattle.lattice_cell.specs.declared.cell.Join.{Join}
 use Rattle.lattice_cell.specs.declared.cell.Toward.{Toward}
 use Rattle.lattice_cell.specs.declared.cell.Toward.TheVariants.{Own, North, Northeast, East, Southeast}
 use Rattle.lattice_core.specs.declared.graph.TheConstants.{MAX_NEIGHBOURS}
-use Rattle.lattice_deck.specs.Words.{is_no_site, row_words, some_whole}
 use Rattle.lattice_deck.specs.declared.joins.JoinRow.{JoinRow}
 use Rattle.lattice_deck.specs.declared.sizes.Sizes.{Sizes}
+use Rattle.site_rows.specs.Words.{is_no_site, row_words}
 
 -- the displacement of the second site's cell
 abbrev pub toward_of : List ℕ → Option Toward
@@ -37,7 +39,7 @@ is_dash b = b == 45
 -- the two whole numbers of an edge `i-j`
 abbrev pub edge_of : List ℕ → Option (ℕ × ℕ)
 edge_of word =
-    option_and_then (λ i. option_map (λ j. (i, j)) (some_whole (after_first is_dash word))) (some_whole (before_first is_dash word))
+    option_and_then (λ i. option_map (λ j. (i, j)) (result_ok (whole_number (after_first is_dash word)))) (result_ok (whole_number (before_first is_dash word)))
 
 -- the row that two words write
 abbrev pub join_of : List (List ℕ) → Option JoinRow

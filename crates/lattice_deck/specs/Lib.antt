@@ -3,12 +3,7 @@ pub mod Faultless
 pub mod Faults
 pub mod Forms
 pub mod Joins
-pub mod Listed
 pub mod Parts
-pub mod Placing
-pub mod ReadRows
-pub mod RowLookup
-pub mod SiteRows
+pub mod RowKinds
 pub mod Sizes
 pub mod Types
-pub mod Words

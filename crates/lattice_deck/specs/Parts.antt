@@ -16,14 +16,14 @@ use Rattle.lattice_cell.specs.Periodic.{periodic_lattice}
 use Rattle.lattice_cell.specs.declared.expand.DefaultLattice.{DefaultLattice}
 use Rattle.lattice_cell.specs.declared.expand.DefaultLattice.TheVariants.{Hexagonal, Rectangular}
 use Rattle.lattice_core.specs.Lattice.{Lattice}
-use Rattle.lattice_deck.specs.Listed.{listed_lattice}
-use Rattle.lattice_deck.specs.SiteRows.{rows_of}
-use Rattle.lattice_deck.specs.Types.{type_of}
 use Rattle.lattice_deck.specs.Faults.{first_fault}
 use Rattle.lattice_deck.specs.Joins.{joins_of}
 use Rattle.lattice_deck.specs.Sizes.{repeats_of, sizes_in}
 use Rattle.lattice_deck.specs.declared.part.LatticePart.{LatticePart}
 use Rattle.lattice_deck.specs.declared.sizes.Sizes.{Sizes}
+use Rattle.site_rows.specs.Listed.{listed_lattice}
+use Rattle.site_rows.specs.SiteRows.{rows_of}
+use Rattle.site_rows.specs.TypeWords.{type_of}
 
 -- the lattice, the names of the types of its sites, and the type words of the file in order
 pub record LatticeValues : Type 0 where

@@ -4,7 +4,7 @@ ghost use Rattle.deck_shape.specs.Blocks.{ItemLines, block_at, item_at};
 ghost use Rattle.deck_shape.specs.FirstFault.{fault_or, first_of_lines, line_fault};
 ghost use Rattle.deck_shape.specs.Forms.{form_of};
 ghost use Rattle.lattice_deck.specs.Coordinates.{coordinates_kind as spec_coordinates_kind};
-ghost use Rattle.lattice_deck.specs.Faults.{default_kind, fault_among, first_fault, form_lines, is_narrow, item_lines, row_count, row_lines, rows_faults, rows_kind, word_kind};
+ghost use Rattle.lattice_deck.specs.Faults.{default_kind, fault_among, first_fault, form_fault, is_narrow, item_fault, row_count, row_lines, rows_fault, rows_kind, word_kind};
 ghost use Rattle.lattice_deck.specs.Forms.{IsForm};
 ghost use Rattle.lattice_deck.specs.declared.forms.Form.TheVariants.{Joins};
 ghost use Rattle.lattice_deck.specs.Joins.{join_kind};
@@ -14,16 +14,16 @@ ghost use Rattle.lattice_deck.specs.declared.forms.TheConstants.{FORMS as ENTRIE
 use crate::coordinates::coordinates_kind;
 use crate::forms::{FORMS, Form, RowCount};
 use crate::joins::{crowds, join_kind};
-use crate::row_faults::site_rows_fault;
+use crate::row_kinds::site_rows_fault;
 use crate::sizes::{Sizes, repeats_kind, repeats_of, sizes_in};
 use crate::types::type_names_kind;
-use crate::words::row_words;
 use dec_text::{Line, Span};
 use deck_shape::kind::{LIST_LENGTH, ROW_COUNT, SELF_NEIGHBOUR, TOO_MANY_NEIGHBOURS};
 use deck_shape::{
     Block, Item, Number, fault_if, has_other_length, lesser, number_kind, numbers_kind,
 };
 use kmc_base::OutOfMemory;
+use site_rows::row_words;
 use std::alloc::Global;
 
 /// The form of a word.
@@ -173,7 +173,7 @@ fn rows_fault(
     rows: &[Line],
 ) -> Result<Option<(u32, u8)>, OutOfMemory>
     requires { IsSizes sizes.now }
-    ensures { IfOk result (λ fault. fault ≡ first_of_lines (rows_faults sizes.now form (map (line_at bytes.now) rows.now))) }
+    ensures { IfOk result (λ fault. fault ≡ rows_fault sizes.now form (map (line_at bytes.now) rows.now)) }
 {
     match form {
         Form::Coordinates(_) => Ok(coordinates_fault(bytes, rows)),
@@ -195,7 +195,7 @@ fn form_fault(
 ) -> Result<Option<(u32, u8)>, OutOfMemory>
     requires sizes { IsSizes sizes.now }
     requires form { IsForm form }
-    ensures { IfOk result (λ fault. fault ≡ first_of_lines (form_lines sizes.now (item_at bytes.now item.now) form)) }
+    ensures { IfOk result (λ fault. fault ≡ form_fault sizes.now (item_at bytes.now item.now) form) }
 {
     let kind = word_kind(alloc, sizes, form, bytes, item)?;
     let later = rows_fault(alloc, sizes, form, bytes, item.rows.as_slice())?;
@@ -210,7 +210,7 @@ fn item_fault(
     item: &Item,
 ) -> Result<Option<(u32, u8)>, OutOfMemory>
     requires { IsSizes sizes.now }
-    ensures { IfOk result (λ fault. fault ≡ first_of_lines (item_lines sizes.now (item_at bytes.now item.now))) }
+    ensures { IfOk result (λ fault. fault ≡ item_fault sizes.now (item_at bytes.now item.now)) }
 {
     match form_of(item.head(bytes)) {
         Some(form) => form_fault(alloc, sizes, form, bytes, item),

@@ -8,11 +8,11 @@ ghost use Rattle.lattice_deck.specs.Joins.{crowds, edge_of, has_bad_end, is_dash
 ghost use Rattle.lattice_deck.specs.Sizes.{AreRepeats, IsSizes};
 
 use crate::sizes::Sizes;
-use crate::words::{is_no_site, row_words, some_whole};
-use dec_text::{Line, Span};
+use dec_text::{Line, Span, read_whole};
 use deck_shape::kind::{BAD_EDGE, ROW_FORM, SELF_NEIGHBOUR};
 use kmc_base::OutOfMemory;
 use lattice_cell::{Join, Toward, is_crowded};
+use site_rows::{is_no_site, row_words};
 use std::alloc::Global;
 
 /// A row of `neighboring_structure`: the two sites of the cell, from 1, and the cell of the second.
@@ -59,8 +59,8 @@ fn edge_of(word: &[u8]) -> Option<(u64, u64)>
     ensures { result ≡ edge_of word.now }
 {
     let (before, after) = split_edge(word);
-    let i = some_whole(before)?;
-    let j = some_whole(after)?;
+    let i = read_whole(before).ok()?;
+    let j = read_whole(after).ok()?;
     Some((i, j))
 }
 

@@ -1,7 +1,7 @@
 ghost use Rattle.std.specs.Prelude.{◌≡◌, ◌∷◌, [], IfErr, IfOk, Ok, map};
 ghost use Rattle.deck_shape.specs.Blocks.{BlockLines, block_at};
 ghost use Rattle.deck_shape.specs.Shapes.{IsFaultOf, IsShapeOf};
-ghost use Rattle.deck_shape.specs.WholeBlocks.{IsWhole};
+ghost use Rattle.deck_shape.specs.WholeBlocks.{IsLatticeKind, IsWhole};
 ghost use Rattle.kmc_base.specs.declared.ids.FileId.TheVariants.{Lattice};
 ghost use Rattle.lattice_deck.specs.Parts.{part_of, values_at};
 
@@ -14,7 +14,8 @@ use std::alloc::Global;
 
 /// The values of a block without faults of form, or its first fault.
 fn read_block(alloc: Global, bytes: &[u8], block: &Block) -> Result<LatticePart, DeckFault>
-    requires { IsWhole (block_at bytes.now block.now) }
+    requires kind { IsLatticeKind block.now.kind }
+    requires whole { IsWhole (block_at bytes.now block.now) }
     ensures values { IfOk result (λ part. part_of (block_at bytes.now block.now) ≡ Ok (values_at bytes.now part)) }
     ensures fault { IfErr result (IsFaultOf Lattice (part_of (block_at bytes.now block.now))) }
 {

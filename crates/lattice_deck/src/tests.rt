@@ -1,11 +1,6 @@
-use crate::listed::listed_graph;
-use crate::row_faults::site_rows_fault;
-use crate::types::type_of;
-use crate::words::{is_no_site, some_whole};
 use crate::{LatticePart, read, unknown_type};
-use dec_text::split;
 use deck_shape::{DeckFault, Fault, read_shape};
-use kmc_base::{FileId, SiteId};
+use kmc_base::{FileId, OutOfMemory, SiteId};
 use std::alloc::Global;
 use std::test::Fail;
 
@@ -18,11 +13,12 @@ fn read_text(alloc: Global, text: &[u8]) -> Result<LatticePart, DeckFault> {
     read(alloc, text, &shape)
 }
 
-/// The line and the kind of the fault of a text.
-fn fault_of(alloc: Global, text: &[u8]) -> Option<(u32, u8)> {
+/// The line and the kind of the fault of a text; None where it has none.
+fn fault_of(alloc: Global, text: &[u8]) -> Result<Option<(u32, u8)>, OutOfMemory> {
     match read_text(alloc, text) {
-        Err(DeckFault::Fault(Fault { line, kind, .. })) => Some((line, kind)),
-        _ => None,
+        Ok(_) => Ok(None),
+        Err(DeckFault::Fault(Fault { line, kind, .. })) => Ok(Some((line, kind))),
+        Err(DeckFault::OutOfMemory) => Err(OutOfMemory),
     }
 }
 
@@ -41,7 +37,7 @@ fn faults_of_default_lattices(rt: HostRuntime) -> Result<(), Fail> {
             "lattice default_choice\nrectangular_periodic {arguments}\n{end}"
         )?;
         assert_eq!(rt;
-            fault_of(alloc, text.as_bytes()),
+            fault_of(alloc, text.as_bytes())?,
             Some((line, kind)),
             "{arguments}"
         );
@@ -66,7 +62,7 @@ fn faults_of_cells(rt: HostRuntime) -> Result<(), Fail> {
             "lattice periodic_cell\nrepeat_cell {repeats}\nn_cell_sites {sites}\nn_site_types 1\nsite_type_names {names}\nsite_types {types}\nneighboring_structure\n{rows}end_neighboring_structure\nend_lattice\n"
         )?;
         assert_eq!(rt;
-            fault_of(alloc, text.as_bytes()),
+            fault_of(alloc, text.as_bytes())?,
             Some((line, kind)),
             "{repeats} {sites} {names} {types} {rows}"
         );
@@ -90,14 +86,14 @@ fn faults_of_lists_of_sites(rt: HostRuntime) -> Result<(), Fail> {
             "lattice explicit\nn_sites 2\nn_site_types 2\nsite_type_names {names}\nlattice_structure\n{rows}end_lattice_structure\nend_lattice\n"
         )?;
         assert_eq!(rt;
-            fault_of(alloc, text.as_bytes()),
+            fault_of(alloc, text.as_bytes())?,
             Some((line, kind)),
             "{names} {rows}"
         );
     }
     let crowded =
         b"lattice explicit\nlattice_structure\n1 0 0 t 33 2 3 4 5 6 7 8 9 10 11 12 13 14 15 16 17 18 19 20 21 22 23 24 25 26 27 28 29 30 31 32 33 34\nend_lattice_structure\nn_sites x\nn_site_types 1\nsite_type_names t\nend_lattice\n";
-    assert_eq!(rt; fault_of(alloc, crowded), Some((3, 27)));
+    assert_eq!(rt; fault_of(alloc, crowded)?, Some((3, 27)));
     Ok(())
 }
 
@@ -133,64 +129,5 @@ fn reads_lattices(rt: HostRuntime) -> Result<(), Fail> {
             assert_eq!(rt; site.0, *number);
         }
     }
-    Ok(())
-}
-
-/// The names of two types.
-fn two_names(alloc: Global) -> Result<[Vec<u8>; 2], Fail> {
-    Ok([b"top".to_vec(alloc)?, b"hollow".to_vec(alloc)?])
-}
-
-#[test]
-fn words_of_sites(rt: HostRuntime) -> Result<(), Fail> {
-    let names = two_names(rt.alloc())?;
-    for (word, number, is_none, kind) in [
-        (b"2".as_slice(), Some(2), false, 2),
-        (b"3", Some(3), true, 0),
-        (b"0", Some(0), true, 0),
-        (b"top", None, false, 1),
-        (b"hollow", None, false, 2),
-        (b"hollo", None, false, 0),
-    ] {
-        assert_eq!(rt; some_whole(word), number);
-        assert_eq!(rt; is_no_site(Some(2), number.unwrap_or(1)), is_none);
-        assert!(rt; !is_no_site(None, number.unwrap_or(1)));
-        assert_eq!(rt; type_of(&names, word), kind);
-    }
-    Ok(())
-}
-
-#[test]
-fn faults_of_rows(rt: HostRuntime) -> Result<(), Fail> {
-    let alloc = rt.alloc();
-    for (text, fault) in [
-        (b"1 0.0 0.0 t 1 2\n2 1.0 0.0 t 1 1\n".as_slice(), None),
-        (b"2 1.0 0.0 t 0\n\n1 0.0 0.0 t 1\n", Some((3, 17))),
-        (b"1 0.0 1e999 t 1 3\n", Some((1, 13))),
-        (b"1 0.0 0.0 t 0\n1 0.0 0.0 t 1 3\n", Some((2, 24))),
-        (b"1 0.0 0.0 t 2 1 3\n", Some((1, 25))),
-        (b"1 0.0 0.0 t 2 1 2\n2 0.0 0.0 t 0\n", Some((1, 26))),
-        (b"1 0.0 0.0 t 0\n2 0.0 0.0 t 1 1\n", Some((2, 28))),
-    ] {
-        let rows = split(alloc, text)?;
-        assert_eq!(rt; site_rows_fault(alloc, text, Some(2), &rows)?, fault);
-    }
-    Ok(())
-}
-
-#[test]
-fn lattice_of_rows(rt: HostRuntime) -> Result<(), Fail> {
-    let alloc = rt.alloc();
-    let text = b"2 1.0 0.0 2 1 1\n1 0.0 0.0 t 2 2 2\n";
-    let rows = split(alloc, text)?;
-    assert_eq!(rt; site_rows_fault(alloc, text, Some(2), &rows)?, None);
-    assert_eq!(rt; rows.len(), 2);
-    let names = two_names(alloc)?;
-    let graph = listed_graph(alloc, text, 2, &names, &rows)?;
-    assert_eq!(rt; graph.len(), 2);
-    assert_eq!(rt; graph.site_type(SiteId(0)), 0);
-    assert_eq!(rt; graph.site_type(SiteId(1)), 2);
-    let neighbours = graph.neighbours(SiteId(0));
-    assert_eq!(rt; neighbours, [SiteId(1)].as_slice());
     Ok(())
 }

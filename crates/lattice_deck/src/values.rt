@@ -7,24 +7,32 @@ ghost use Rattle.lattice_cell.specs.Cells.{IsInCell};
 ghost use Rattle.lattice_cell.specs.Default.{default_lattice};
 ghost use Rattle.lattice_cell.specs.Periodic.{neighbour_lists, periodic_lattice};
 ghost use Rattle.lattice_core.specs.Fault.{first_fault};
-ghost use Rattle.lattice_deck.specs.Listed.{listed_lattice};
-ghost use Rattle.lattice_deck.specs.SiteRows.{rows_of};
-ghost use Rattle.lattice_deck.specs.Types.{type_of};
 ghost use Rattle.lattice_deck.specs.Faultless.{AreFaultless, HasDefault, IsCell, IsDefault, IsExplicit};
-ghost use Rattle.lattice_deck.specs.Parts.{behind_constant, cell_of, cell_values, default_of, default_values, explicit_values, type_on, values_at, values_of};
+ghost use Rattle.lattice_deck.specs.Parts.{behind_constant, cell_of, cell_values, default_of, default_values, explicit_values, rows_in, type_on, values_at, values_of};
+ghost use Rattle.site_rows.specs.Listed.{listed_lattice};
+ghost use Rattle.site_rows.specs.SiteRows.{rows_of};
+ghost use Rattle.site_rows.specs.TypeWords.{type_of};
 
 use crate::joins::joins_of;
-use crate::listed::listed_graph;
 use crate::part::LatticePart;
 use crate::sizes::{Sizes, repeats_of, sizes_in};
-use crate::types::type_of;
-use crate::words::rows_in;
 use dec_text::{Line, Span};
 use deck_shape::{Block, BlockKind, Keyword, Name};
 use kmc_base::{Items, OutOfMemory};
 use lattice_cell::{DefaultLattice, Join, expand_default, expand_periodic};
 use lattice_core::{Graph, GraphFault};
+use site_rows::type_of;
 use std::alloc::Global;
+
+/// The rows of a word, none where it is absent.
+fn rows_in<'a>(block: &'a Block, bytes: &[u8], keyword: Keyword) -> &'a [Line]
+    ensures { map (line_at bytes.now) result.now ≡ rows_in keyword (block_at bytes.now block.now).items }
+{
+    match block.item(bytes, keyword) {
+        Some(item) => item.rows.as_slice(),
+        None => &[],
+    }
+}
 
 /// The one fault of a lattice whose neighbours have none: want of memory.
 fn want_of_memory(fault: GraphFault) -> OutOfMemory
@@ -235,7 +243,7 @@ fn explicit_graph(
     ensures { IfOk result (λ g. g ≡ listed_lattice (unwrap_or sizes.now.sites 0) (map (λ name. name.items) names.now) (rows_of (map (line_at bytes.now) rows.now))) }
 {
     match sizes.sites {
-        Some(sites) => listed_graph(alloc, bytes, sites as u32, names, rows),
+        Some(sites) => site_rows::graph_of(alloc, bytes, sites as u32, names, rows),
         None => unreachable!(),
     }
 }

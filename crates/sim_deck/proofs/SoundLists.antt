@@ -72,7 +72,7 @@ holds_not : (holds : Bool) (kind : ℕ) → fault_if holds kind ≡ None → hol
 holds_not true kind e = absurd cc
 holds_not false kind e = refl
 
-neither_holds : (a b : Bool) → (a || b) ≡ false → (a ≡ false) × (b ≡ false)
+pub neither_holds : (a b : Bool) → (a || b) ≡ false → (a ≡ false) × (b ≡ false)
 neither_holds true b e = absurd cc
 neither_holds false b e = (refl, e)
 

@@ -19,7 +19,7 @@ use Rattle.sim_deck.specs.Samplings.{sampling_kind}
 use Rattle.sim_deck.specs.declared.forms.Form.{Form}
 use Rattle.sim_deck.specs.declared.forms.Form.TheVariants.{Number, NumberOrInfinity, Numbers, Names, Sampling, Free}
 use Rattle.sim_deck.specs.declared.forms.NeededList.{NeededList}
-use Rattle.sim_deck.specs.declared.forms.TheConstants.{FORMS, MOST_SPECIES, NEEDED_LISTS, SPECIES_COUNT}
+use Rattle.sim_deck.specs.declared.forms.TheConstants.{FORMS, MAX_SPECIES, NEEDED_LISTS, SPECIES_COUNT}
 
 -- the words are `infinity` alone
 abbrev pub is_infinity : List (List ℕ) → Bool
@@ -53,7 +53,7 @@ closing_kind counts items = fault_if (list_any (is_absent counts items) NEEDED_L
 abbrev pub sound_count : List (List ℕ) → Option ℕ
 sound_count [] = Some 0
 sound_count (word ∷ words) =
-    if is_none (numbers_kind SPECIES_COUNT (word ∷ words)) then Some (whole_value 0 MOST_SPECIES 0 (whole_number word)) else None
+    if is_none (numbers_kind SPECIES_COUNT (word ∷ words)) then Some (whole_value 0 MAX_SPECIES 0 (whole_number word)) else None
 
 -- a number of species that has no fault: that of the line which states it, or 0
 abbrev pub count_in : Keyword → List ItemLines → Option ℕ

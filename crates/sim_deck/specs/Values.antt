@@ -11,7 +11,7 @@ use Rattle.deck_shape.specs.declared.keyword.Keyword.TheVariants.{RandomSeed, Te
 use Rattle.sim_deck.specs.Faults.{first_fault, is_infinity}
 use Rattle.deck_shape.specs.Numbers.{decimal_value, up_to_value, whole_value, zero}
 use Rattle.sim_deck.specs.Samplings.{sampling_of}
-use Rattle.sim_deck.specs.declared.forms.TheConstants.{MOST_EVENTS, MOST_TIME}
+use Rattle.sim_deck.specs.declared.forms.TheConstants.{MAX_EVENTS, MAX_TIME}
 use Rattle.sim_deck.specs.declared.part.Plan.{Plan}
 use Rattle.sim_deck.specs.declared.part.Sampling.{Sampling}
 use Rattle.sim_deck.specs.declared.part.Sampling.TheVariants.{Off}
@@ -79,7 +79,7 @@ sampling_in keyword items = option_map_or sampling_of (words_behind keyword item
 -- the greatest time in as, where the words state one
 abbrev pub time_limit : List (List ℕ) → Option ℕ
 time_limit words =
-    if is_infinity words then None else Some (unsigned_abs (decimal_value 18 (pos 0) MOST_TIME (pos 0) (decimal_of (first_word words))))
+    if is_infinity words then None else Some (unsigned_abs (decimal_value 18 (pos 0) MAX_TIME (pos 0) (decimal_of (first_word words))))
 
 -- the greatest time in as; None where the file states none
 abbrev pub time_limit_in : List ItemLines → Option ℕ
@@ -89,7 +89,7 @@ time_limit_in items = option_map_or time_limit (words_behind MaxTime items) None
 abbrev pub plan_of : List ItemLines → Plan
 plan_of items = record {
   seed = whole_in RandomSeed 0 18446744073709551615 0 items;
-  max_steps = whole_in MaxSteps 0 MOST_EVENTS MOST_EVENTS items;
+  max_steps = whole_in MaxSteps 0 MAX_EVENTS MAX_EVENTS items;
   max_time = time_limit_in items;
   history = sampling_in Snapshots items;
   procstat = sampling_in ProcessStatistics items;

@@ -11,7 +11,7 @@ ghost use Rattle.sim_deck.specs.Faults.{closing_kind, count_in, counts_in, fault
 ghost use Rattle.sim_deck.specs.Views.{counts_at};
 ghost use Rattle.sim_deck.specs.Forms.{IsForm};
 
-use crate::forms::{FORMS, Form, MOST_SPECIES, NEEDED_LISTS, NeededList, SPECIES_COUNT};
+use crate::forms::{FORMS, Form, MAX_SPECIES, NEEDED_LISTS, NeededList, SPECIES_COUNT};
 use crate::lists::{Counts, has_members, names_kind};
 use crate::samplings::sampling_kind;
 use dec_text::Span;
@@ -126,7 +126,7 @@ fn sound_count(bytes: &[u8], words: &[Span]) -> Option<u64>
         return Some(0);
     };
     match numbers_kind(SPECIES_COUNT, bytes, words) {
-        None => Some(whole_value(0, MOST_SPECIES, 0, word.bytes(bytes))),
+        None => Some(whole_value(0, MAX_SPECIES, 0, word.bytes(bytes))),
         Some(_) => None,
     }
 }

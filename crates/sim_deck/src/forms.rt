@@ -38,16 +38,16 @@ pub struct NeededList {
 }
 
 /// The greatest number of events, 2^40 - 1, which is that of `infinity` too.
-pub const MOST_EVENTS: u64 = 1_099_511_627_775;
+pub const MAX_EVENTS: u64 = 1_099_511_627_775;
 
 /// The greatest time in as: 10^30 as are 10^12 s.
-pub const MOST_TIME: i128 = 1_000_000_000_000_000_000_000_000_000_000;
+pub const MAX_TIME: i128 = 1_000_000_000_000_000_000_000_000_000_000;
 
 /// The greatest number of gas species, and of surface species.
-pub const MOST_SPECIES: u64 = 64;
+pub const MAX_SPECIES: u64 = 64;
 
 /// A number of species.
-pub const SPECIES_COUNT: Number = Number::Whole(0, 64);
+pub const SPECIES_COUNT: Number = Number::Whole(0, MAX_SPECIES);
 
 /// A temperature in K, kept in mK: from 1 mK to 10,000 K.
 pub const TEMPERATURE: Number = Number::Scaled(3, 1, 10_000_000);
@@ -68,16 +68,16 @@ pub const DENTATES: Number = Number::Whole(1, 8);
 pub const ANY_WHOLE: Number = Number::Whole(0, 18_446_744_073_709_551_615);
 
 /// The argument of `max_steps`.
-pub const EVENT_LIMIT: Number = Number::Whole(0, 1_099_511_627_775);
+pub const EVENT_LIMIT: Number = Number::Whole(0, MAX_EVENTS);
 
 /// The argument of `max_time` in s, kept in as (10^-18 s).
-pub const TIME_LIMIT: Number = Number::Scaled(18, 0, 1_000_000_000_000_000_000_000_000_000_000);
+pub const TIME_LIMIT: Number = Number::Scaled(18, 0, MAX_TIME);
 
 /// The period of a sampling in events.
-pub const EVENT_PERIOD: Number = Number::Whole(1, 1_099_511_627_775);
+pub const EVENT_PERIOD: Number = Number::Whole(1, MAX_EVENTS);
 
 /// The period of a sampling in s, kept in as: at least 1 as.
-pub const TIME_PERIOD: Number = Number::Scaled(18, 1, 1_000_000_000_000_000_000_000_000_000_000);
+pub const TIME_PERIOD: Number = Number::Scaled(18, 1, MAX_TIME);
 
 /// The forms of the words that have a value.
 pub const FORMS: [WordForm<Form>; 19] = [

@@ -1,6 +1,8 @@
 ghost use Rattle.std.specs.Prelude.{◌≡◌, ◌∷◌, [], IfErr, IfOk, Ok, map};
 ghost use Rattle.deck_shape.specs.Blocks.{BlockLines, block_at};
 ghost use Rattle.deck_shape.specs.Shapes.{IsFaultOf, IsShapeOf};
+ghost use Rattle.deck_shape.specs.WholeBlocks.{IsWhole};
+ghost use Rattle.deck_shape.specs.declared.table.BlockKind.TheVariants.{Simulation as SimulationBlock};
 ghost use Rattle.kmc_base.specs.declared.ids.FileId.TheVariants.{Simulation};
 ghost use Rattle.sim_deck.specs.Soundness.{IsSoundPart, StatesNumbers};
 ghost use Rattle.sim_deck.specs.Values.{part_of, values_at};
@@ -14,6 +16,8 @@ use std::alloc::Global;
 
 /// The values of a block, or its first fault.
 fn read_block(alloc: Global, bytes: &[u8], block: &Block) -> Result<SimPart, DeckFault>
+    requires kind { block.now.kind ≡ SimulationBlock }
+    requires whole { IsWhole (block_at bytes.now block.now) }
     ensures values { IfOk result (λ part. part_of (block_at bytes.now block.now) ≡ Ok (values_at bytes.now part)) }
     ensures sound { IfOk result (λ part. IsSoundPart (values_at bytes.now part)) }
     ensures stated { IfOk result (λ _. StatesNumbers (block_at bytes.now block.now).items) }

@@ -3,7 +3,7 @@ ghost use Rattle.dec_text.specs.Spans.{bytes_at};
 ghost use Rattle.sim_deck.specs.Samplings.{event_period, is_on, sampling_kind, sampling_of, time_period};
 ghost use Rattle.sim_deck.specs.Soundness.{IsPeriod};
 
-use crate::forms::{EVENT_PERIOD, MOST_EVENTS, MOST_TIME, TIME_PERIOD};
+use crate::forms::{EVENT_PERIOD, MAX_EVENTS, MAX_TIME, TIME_PERIOD};
 use crate::part::Sampling;
 use dec_text::Span;
 use deck_shape::kind::BAD_CHOICE;
@@ -67,14 +67,14 @@ pub(crate) fn sampling_kind(bytes: &[u8], words: &[Span]) -> Option<u8>
 fn event_period(word: &[u8]) -> u64
     ensures { result ≡ event_period word.now }
 {
-    whole_value(1, MOST_EVENTS, 1, word)
+    whole_value(1, MAX_EVENTS, 1, word)
 }
 
 /// The period in as that a word states.
 fn time_period(word: &[u8]) -> u128
     ensures { result ≡ time_period word.now }
 {
-    decimal_value(18, 1, MOST_TIME, 1, word).unsigned_abs()
+    decimal_value(18, 1, MAX_TIME, 1, word).unsigned_abs()
 }
 
 /// The sampling that two words without a fault state.

@@ -1,7 +1,7 @@
 use crate::{Plan, Sampling, SimPart, read};
 use dec_text::Decimal;
 use deck_shape::{DeckFault, Fault, read_shape};
-use kmc_base::FileId;
+use kmc_base::{FileId, OutOfMemory};
 use std::alloc::Global;
 use std::test::Fail;
 
@@ -14,11 +14,12 @@ fn read_text(alloc: Global, text: &[u8]) -> Result<SimPart, DeckFault> {
     read(alloc, text, &shape)
 }
 
-/// The line and the kind of the fault of a text.
-fn fault_of(alloc: Global, text: &[u8]) -> Option<(u32, u8)> {
+/// The line and the kind of the fault of a text, if it has one.
+fn fault_of(alloc: Global, text: &[u8]) -> Result<Option<(u32, u8)>, OutOfMemory> {
     match read_text(alloc, text) {
-        Err(DeckFault::Fault(Fault { line, kind, .. })) => Some((line, kind)),
-        _ => None,
+        Ok(_) => Ok(None),
+        Err(DeckFault::Fault(Fault { line, kind, .. })) => Ok(Some((line, kind))),
+        Err(DeckFault::OutOfMemory) => Err(OutOfMemory),
     }
 }
 
@@ -49,13 +50,13 @@ fn answers_the_first_fault(rt: HostRuntime) -> Result<(), Fail> {
     ] {
         let text = format!(in alloc; "{lines}temperature 500.0\npressure 1.0\nfinish\n")?;
         assert_eq!(rt;
-            fault_of(alloc, text.as_bytes()),
+            fault_of(alloc, text.as_bytes())?,
             Some((line, kind)),
             "{lines}"
         );
     }
     let cold = b"temperature 0.0004\npressure 1.0\nfinish\n";
-    assert_eq!(rt; fault_of(alloc, cold), Some((1, 13)));
+    assert_eq!(rt; fault_of(alloc, cold)?, Some((1, 13)));
     Ok(())
 }
 
@@ -66,7 +67,7 @@ fn measures_each_list(rt: HostRuntime) -> Result<(), Fail> {
         let text = format!(in alloc;
             "random_seed 1\ntemperature 500.0\npressure 1.0\nn_gas_species 1\ngas_specs_names A\ngas_energies 0.0\ngas_molar_fracs 1.0\nn_surf_species 1\nsurf_specs_names A*\nsurf_specs_dent {dentates}\nfinish\n"
         )?;
-        assert_eq!(rt; fault_of(alloc, text.as_bytes()), fault);
+        assert_eq!(rt; fault_of(alloc, text.as_bytes())?, fault);
     }
     Ok(())
 }

@@ -7,7 +7,7 @@ ghost use Rattle.sim_deck.specs.Soundness.{AreInRange, IsPeriod, IsSoundPlan};
 ghost use Rattle.sim_deck.specs.Values.{dentates_of, energy_of, first_word, fraction_of, plan_of, pressure_in, sampling_in, temperature_in, time_limit_in, values_at, values_of, whole_in};
 
 use crate::faults::is_infinity;
-use crate::forms::{MOST_EVENTS, MOST_TIME};
+use crate::forms::{MAX_EVENTS, MAX_TIME};
 use crate::part::{Plan, Sampling, SimPart};
 use crate::samplings::sampling_of;
 use dec_text::{Decimal, Span};
@@ -145,7 +145,7 @@ fn time_limit_in(block: &Block, bytes: &[u8]) -> Option<u128>
     if is_infinity(bytes, words) {
         return None;
     }
-    let time = decimal_value(18, 0, MOST_TIME, 0, first_word(bytes, words));
+    let time = decimal_value(18, 0, MAX_TIME, 0, first_word(bytes, words));
     Some(time.unsigned_abs())
 }
 
@@ -156,7 +156,7 @@ fn plan_of(block: &Block, bytes: &[u8]) -> Plan
 {
     Plan {
         seed: whole_in(block, bytes, Keyword::RandomSeed, 0, u64::MAX, 0),
-        max_steps: whole_in(block, bytes, Keyword::MaxSteps, 0, MOST_EVENTS, MOST_EVENTS),
+        max_steps: whole_in(block, bytes, Keyword::MaxSteps, 0, MAX_EVENTS, MAX_EVENTS),
         max_time: time_limit_in(block, bytes),
         history: sampling_in(block, bytes, Keyword::Snapshots),
         procstat: sampling_in(block, bytes, Keyword::ProcessStatistics),

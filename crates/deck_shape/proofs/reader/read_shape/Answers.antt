@@ -1,6 +1,7 @@
 use Rattle.std.proofs.Common.{◌≡◌, ◌∙◌, Some, ap, map, sym}
 use Rattle.deck_shape.specs.Blocks.{block_at}
 use Rattle.deck_shape.specs.Reading.{first_block}
+use Rattle.deck_shape.proofs.FileKinds.{lattice_kind}
 use Rattle.deck_shape.proofs.ShapeFacts.{whole_block}
 use Rattle.deck_shape.proofs.reader.read_shape.Goals as goal
 
@@ -15,5 +16,6 @@ returns-clause-shape c =
       block = block;
       one = ap (map (block_at text)) (c.new.ensures ∙ c.in_ok-blocks.ensures.items);
       read = c.in_ok-block.ensures.block;
-      whole = λ is. whole_block c.in-Some.kind text block (sym (ap first_block is) ∙ begins) c.in_ok-block.ensures.block;
+      whole = whole_block c.in-Some.kind text block c.in_ok-block.ensures.block;
+      lattice = λ is. lattice_kind c.in-Some.kind text block (sym (ap first_block is) ∙ begins) c.in_ok-block.ensures.block;
     }

@@ -1,14 +1,18 @@
-use Rattle.std.proofs.Common.{◌≡◌, ◌∙◌, [], ◌∷◌, ap, arith, length, map, refl, subst, sym}
+use Rattle.std.proofs.Common.{◌∙◌, ap, get_or, refl, subst, sym}
 use Rattle.deck_shape.specs.Blocks.{block_at}
-use Rattle.deck_shape.specs.WholeBlocks.{IsWhole}
-use Rattle.lattice_deck.proofs.Maps.{the_one}
+use Rattle.deck_shape.specs.WholeBlocks.{IsLatticeKind, IsWhole}
+use Rattle.deck_shape.proofs.Maps.{first_of_one}
 use Rattle.lattice_deck.proofs.reader.read.Goals as goal
 
-pub read_block-requires : goal.read_block-requires
-read_block-requires c =
-    let text = c.args.bytes.now in
-    let count : length c.as_slice.result.now ≡ 1 = omega arith in
-    let one : c.args.shape.now.blocks ≡ c.block-item.result ∷ [] = sym c.as_slice.ensures ∙ the_one c.as_slice.result.now c.block-item.result count c.block-item.is in
-    let blocks : c.requires.block ∷ [] ≡ block_at text c.block-item.result ∷ [] = sym c.requires.one ∙ ap (map (block_at text)) one in
-    let same : c.requires.block ≡ block_at text c.block-item.result = cc in
-    subst IsWhole same (c.requires.whole refl)
+pub read_block-requires-clause-kind : goal.read_block-requires-clause-kind
+read_block-requires-clause-kind c =
+    let block = c.block-item.result in
+    let same = first_of_one (block_at c.args.bytes.now) c.args.shape.now.blocks block c.requires.block c.requires.one (c.block-item.is ∙ ap (λ blocks. get_or blocks 0 block) c.as_slice.ensures) in
+    subst (λ b. IsLatticeKind b.kind) (sym same) (c.requires.lattice refl)
+
+pub read_block-requires-clause-whole : goal.read_block-requires-clause-whole
+read_block-requires-clause-whole c =
+    let block = c.block-item.result in
+    subst IsWhole
+    (sym (first_of_one (block_at c.args.bytes.now) c.args.shape.now.blocks block c.requires.block c.requires.one (c.block-item.is ∙ ap (λ blocks. get_or blocks 0 block) c.as_slice.ensures)))
+    c.requires.whole

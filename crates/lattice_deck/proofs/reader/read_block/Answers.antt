@@ -8,4 +8,4 @@ pub values_of-requires : goal.values_of-requires
 values_of-requires c =
     let block = block_at c.args.bytes.now c.args.block.now in
     let none : first_fault block ≡ None = sym c.in_ok-line.ensures ∙ c.in_default.is in
-    faultless block c.requires none
+    faultless block c.requires.kind c.requires.whole none

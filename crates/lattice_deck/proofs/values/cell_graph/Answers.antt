@@ -4,7 +4,7 @@ use Rattle.std.proofs.lemmas.List.{length-map}
 use Rattle.dec_text.specs.Spans.{bytes_at, line_at}
 use Rattle.lattice_core.specs.Fault.{first_fault}
 use Rattle.lattice_cell.specs.Periodic.{neighbour_lists}
-use Rattle.lattice_deck.specs.Types.{type_of}
+use Rattle.site_rows.specs.TypeWords.{type_of}
 use Rattle.lattice_deck.proofs.CellJoins.{cell_sound, same_count}
 use Rattle.lattice_deck.proofs.SizesSound.{few_of}
 use Rattle.lattice_deck.proofs.values.cell_graph.Goals as goal

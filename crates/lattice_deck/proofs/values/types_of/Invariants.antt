@@ -1,6 +1,6 @@
 use Rattle.std.proofs.Common.{◌≡◌, ◌++◌, drop, map}
 use Rattle.dec_text.specs.Spans.{bytes_at}
-use Rattle.lattice_deck.specs.Types.{type_of}
+use Rattle.site_rows.specs.TypeWords.{type_of}
 use Rattle.lattice_deck.proofs.values.types_of.Given as goal
 
 -- the types so far, and those that are left, are all of them

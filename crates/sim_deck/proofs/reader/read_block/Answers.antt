@@ -27,4 +27,5 @@ returns-clause-sound c =
     }
 
 pub returns-clause-stated : goal.returns-clause-stated
-returns-clause-stated c = states_numbers (block_at c.args.bytes.now c.args.block.now) (sym c.in_ok-line.ensures ∙ c.in_default.is)
+returns-clause-stated c =
+    states_numbers (block_at c.args.bytes.now c.args.block.now) c.requires.kind c.requires.whole (sym c.in_ok-line.ensures ∙ c.in_default.is)

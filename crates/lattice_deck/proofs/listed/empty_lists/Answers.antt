@@ -1,8 +1,0 @@
-use Rattle.std.proofs.Common.{arith}
-use Rattle.lattice_deck.proofs.Placed.{lists_pushed}
-use Rattle.lattice_deck.proofs.listed.empty_lists.Goals as goal
-
-pub loop-site-preserved : goal.loop-site-preserved
-loop-site-preserved c =
-    lists_pushed c.loop-site.lists.items c.push.new.self.items c.new.result c.args.sites c.loop-site._site c.in_ok-push.ensures.items c.new.ensures.items
-    (omega arith) c.loop-site.invariant

@@ -1,9 +1,0 @@
-use Rattle.std.proofs.Common.{arith}
-use Rattle.std.proofs.lemmas.Grind.{common_steps}
-use Rattle.lattice_deck.proofs.NumberLists.{count_once}
-use Rattle.lattice_deck.proofs.row_faults.count_different.Goals as goal
-
-pub returns : goal.returns
-returns c =
-    let same = count_once c.args.numbers.items c.sort_once.new.numbers.items c.sort_once.ensures.rising c.sort_once.ensures.same in
-    grind (arith, common_steps, same)

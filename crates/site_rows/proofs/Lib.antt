@@ -1,0 +1,7 @@
+mod FaultlessRows
+mod ListedLattice
+mod NumberLists
+mod Placed
+mod RowLookups
+mod RowWords
+mod Searches

@@ -1,0 +1,9 @@
+use Rattle.std.proofs.Common.{arith}
+use Rattle.std.proofs.lemmas.Grind.{common_steps}
+use Rattle.site_rows.proofs.NumberLists.{count_once}
+use Rattle.site_rows.proofs.faults.count_different.Goals as goal
+
+pub returns : goal.returns
+returns c =
+    let same = count_once c.args.numbers.items c.sort_once.new.numbers.items c.sort_once.ensures.rising c.sort_once.ensures.same in
+    grind (arith, common_steps, same)

@@ -1,0 +1,111 @@
+ghost use Rattle.std.specs.Prelude.{◌≡◌, ◌||◌, ◌++◌, ◌∷◌, [], ℕ, List, IfOk, OnOk, map};
+ghost use Rattle.std.specs.List.{list_any};
+ghost use Rattle.std.specs.List.Sorted.{IsStrictlyIncreasing};
+ghost use Rattle.dec_text.specs.Lines.{WordLine};
+ghost use Rattle.dec_text.specs.Spans.{line_at};
+ghost use Rattle.lattice_core.specs.SiteList.{is_listed};
+ghost use Rattle.site_rows.specs.Words.{is_no_site};
+ghost use Rattle.site_rows.specs.ReadRows.{row_at};
+ghost use Rattle.site_rows.specs.RowLookup.{IsIndexOf, Keeps};
+ghost use Rattle.site_rows.specs.SiteRows.{SiteRow, rows_of};
+
+use crate::row::{ReadRow, site_row};
+use crate::words::is_no_site;
+use dec_text::Line;
+use kmc_base::OutOfMemory;
+use std::alloc::Global;
+use std::collections::BTreeMap;
+
+/// What is kept of a row for the rows of other sites.
+#[derive(Debug, Drop)]
+pub(crate) struct RowNeighbours {
+    /// The row names what is no site.
+    pub(crate) has_bad_site: bool,
+    /// Its neighbours, rising, each once.
+    pub(crate) neighbours: Vec<u64>,
+}
+
+/// Puts numbers into rising order, each once.
+pub(crate) fn sort_once(numbers: &mut Vec<u64>)
+    ensures rising { IsStrictlyIncreasing numbers.new.items }
+    ensures same { (n : ℕ) → is_listed numbers.new.items n ≡ is_listed numbers.old.items n }
+{
+    numbers.sort_unstable();
+    numbers.dedup();
+}
+
+/// Some number is that of no site.
+fn names_no_site(sites: Option<u64>, numbers: &[u64]) -> bool
+    ensures { result ≡ list_any (is_no_site sites) numbers.now }
+{
+    numbers.iter().any(|n| is_no_site(sites, *n))
+}
+
+/// A row with this site and these neighbours names what is no site.
+pub(crate) fn has_bad_site(sites: Option<u64>, site: u64, neighbours: &[u64]) -> bool
+    ensures { result ≡ (is_no_site sites site || list_any (is_no_site sites) neighbours.now) }
+{
+    is_no_site(sites, site) || names_no_site(sites, neighbours)
+}
+
+/// What is kept of a row.
+fn kept_of(sites: Option<u64>, row: ReadRow) -> RowNeighbours
+    ensures { (text : List ℕ) → Keeps sites result (row_at text row) }
+{
+    let has_bad_site = has_bad_site(sites, row.site, row.neighbours.as_slice());
+    let mut neighbours = row.neighbours;
+    sort_once(&mut neighbours);
+    RowNeighbours {
+        has_bad_site,
+        neighbours,
+    }
+}
+
+/// Keeps a row, where it is the first of its site.
+fn keep_first(
+    index: &mut BTreeMap<u64, RowNeighbours>,
+    sites: Option<u64>,
+    row: ReadRow,
+) -> Result<(), OutOfMemory>
+    ensures { OnOk result ((text : List ℕ) (rows : List SiteRow) → IsIndexOf sites rows index.old
+        → IsIndexOf sites (rows ++ row_at text row ∷ []) index.new) }
+{
+    let site = row.site;
+    if !index.contains_key(&site) {
+        index.insert(site, kept_of(sites, row))?;
+    }
+    Ok(())
+}
+
+/// Keeps the row of a line, where it has one and that is the first of its site.
+fn keep_line(
+    alloc: Global,
+    index: &mut BTreeMap<u64, RowNeighbours>,
+    bytes: &[u8],
+    sites: Option<u64>,
+    line: &Line,
+) -> Result<(), OutOfMemory>
+    ensures { OnOk result ((above : List WordLine) → IsIndexOf sites (rows_of above) index.old
+        → IsIndexOf sites (rows_of (above ++ line_at bytes.now line.now ∷ [])) index.new) }
+{
+    match site_row(alloc, bytes, line)? {
+        Some(row) => keep_first(index, sites, row),
+        None => Ok(()),
+    }
+}
+
+/// The first row of each site.
+pub(crate) fn index_rows(
+    alloc: Global,
+    bytes: &[u8],
+    sites: Option<u64>,
+    rows: &[Line],
+) -> Result<BTreeMap<u64, RowNeighbours>, OutOfMemory>
+    ensures { IfOk result (IsIndexOf sites (rows_of (map (line_at bytes.now) rows.now))) }
+{
+    let mut index = BTreeMap::new(alloc);
+    for line in rows {
+        keep_line(alloc, &mut index, bytes, sites, line)?;
+    }
+    Ok(index)
+}

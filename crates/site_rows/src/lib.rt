@@ -1,0 +1,22 @@
+//! The rows of `lattice_structure` in a lattice file: each is a site of an explicit lattice, with its type and its
+//! neighbours.
+//!
+//! `first_fault` gives exactly the first fault of the rows, and `graph_of` exactly the lattice of rows without one.
+//! `type_of` gives the type of a type word. The form of a row is that of the Zacros manual. It stands on dec_text and
+//! lattice_core, and knows nothing of blocks or of the numbers of kinds of faults.
+#![tactic(auto)]
+
+mod faults;
+mod index;
+mod listed;
+mod row;
+mod type_word;
+mod words;
+
+pub use faults::{RowFault, first_fault};
+pub use listed::graph_of;
+pub use type_word::type_of;
+pub use words::{is_no_site, row_words};
+
+#[cfg(test)]
+mod tests;

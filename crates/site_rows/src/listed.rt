@@ -1,0 +1,144 @@
+ghost use Rattle.std.specs.Prelude.{◌≡◌, ◌-◌, ◌++◌, ◌≤◌, ◌∷◌, [], All, IfOk, List, None, OnOk, Some, length, map, replicate, slice_set};
+ghost use Rattle.dec_text.specs.Lines.{WordLine};
+ghost use Rattle.dec_text.specs.Spans.{bytes_at, line_at};
+ghost use Rattle.lattice_core.specs.SiteList.{number_lists, site_numbers};
+ghost use Rattle.site_rows.specs.Listed.{listed_lattice};
+ghost use Rattle.site_rows.specs.Placing.{AreNeighbours, AreTypes, IsFaultless, IsNewSite, IsSite, LineNamesSites, NamesSites};
+ghost use Rattle.site_rows.specs.ReadRows.{row_at};
+ghost use Rattle.site_rows.specs.RowFaults.{first_fault};
+ghost use Rattle.site_rows.specs.SiteRows.{rows_of};
+ghost use Rattle.site_rows.specs.TypeWords.{type_of};
+
+use crate::row::{ReadRow, site_row};
+use crate::type_word::type_of;
+use dec_text::Line;
+use kmc_base::{MAX_SITES, OutOfMemory, SiteId};
+use lattice_core::Graph;
+use std::alloc::Global;
+
+/// Sites from their numbers, which are from 1.
+fn site_ids(alloc: Global, numbers: &[u64]) -> Result<Vec<SiteId>, OutOfMemory>
+    requires { All (IsSite MAX_SITES) numbers.now }
+    ensures { IfOk result (λ ids. site_numbers ids.items ≡ map (λ n. n - 1) numbers.now) }
+{
+    let mut ids = Vec::new(alloc);
+    for n in numbers {
+        ids.push(SiteId((*n - 1) as u32))?;
+    }
+    Ok(ids)
+}
+
+/// An empty list for each site.
+fn empty_lists(alloc: Global, sites: u32) -> Result<Vec<Vec<SiteId>>, OutOfMemory>
+    ensures { IfOk result (λ lists. number_lists lists.items ≡ replicate sites []) }
+{
+    let mut lists = Vec::new(alloc);
+    for _site in 0..sites {
+        lists.push(Vec::new(alloc))?;
+    }
+    Ok(lists)
+}
+
+/// Puts the type and the neighbours of a row at its site.
+fn place_row(
+    alloc: Global,
+    bytes: &[u8],
+    names: &[Vec<u8>],
+    types: &mut [u16],
+    lists: &mut [Vec<SiteId>],
+    row: &ReadRow,
+) -> Result<(), OutOfMemory>
+    requires names { length names.now ≤ 1000 }
+    requires same_length { length lists.old ≡ length types.old }
+    requires within_limit { length types.old ≤ MAX_SITES }
+    requires sites { NamesSites (length types.old) (row_at bytes.now row.now) }
+    ensures types { OnOk result (types.new ≡ slice_set types.old (row.now.site - 1) (type_of (map (λ name. name.items) names.now) (bytes_at bytes.now row.now.type_word))) }
+    ensures lists { OnOk result (number_lists lists.new ≡ slice_set (number_lists lists.old) (row.now.site - 1) (map (λ n. n - 1) row.now.neighbours.items)) }
+{
+    let place = (row.site - 1) as usize;
+    types[place] = type_of(names, row.type_word.bytes(bytes)) as u16;
+    lists[place] = site_ids(alloc, row.neighbours.as_slice())?;
+    Ok(())
+}
+
+/// Puts what the row of a line has at its site.
+fn place_line(
+    alloc: Global,
+    bytes: &[u8],
+    names: &[Vec<u8>],
+    types: &mut [u16],
+    lists: &mut [Vec<SiteId>],
+    line: &Line,
+) -> Result<(), OutOfMemory>
+    requires names { length names.now ≤ 1000 }
+    requires same_length { length lists.old ≡ length types.old }
+    requires within_limit { length types.old ≤ MAX_SITES }
+    requires sites { LineNamesSites (length types.old) (line_at bytes.now line.now) }
+    ensures types { OnOk result ((above : List WordLine) → IsNewSite (rows_of above) (line_at bytes.now line.now)
+        → AreTypes (map (λ name. name.items) names.now) (rows_of above) types.old
+        → AreTypes (map (λ name. name.items) names.now) (rows_of (above ++ line_at bytes.now line.now ∷ [])) types.new) }
+    ensures lists { OnOk result ((above : List WordLine) → IsNewSite (rows_of above) (line_at bytes.now line.now)
+        → AreNeighbours (rows_of above) lists.old
+        → AreNeighbours (rows_of (above ++ line_at bytes.now line.now ∷ [])) lists.new) }
+{
+    match site_row(alloc, bytes, line)? {
+        Some(row) => place_row(alloc, bytes, names, types, lists, &row),
+        None => Ok(()),
+    }
+}
+
+/// Puts what rows without a fault have at their sites.
+fn place_rows(
+    alloc: Global,
+    bytes: &[u8],
+    names: &[Vec<u8>],
+    types: &mut [u16],
+    lists: &mut [Vec<SiteId>],
+    rows: &[Line],
+) -> Result<(), OutOfMemory>
+    requires names { length names.now ≤ 1000 }
+    requires same_length { length lists.old ≡ length types.old }
+    requires within_limit { length types.old ≤ MAX_SITES }
+    requires faultless { IsFaultless (length types.old) (map (line_at bytes.now) rows.now) }
+    ensures types { OnOk result (AreTypes (map (λ name. name.items) names.now) [] types.old
+        → AreTypes (map (λ name. name.items) names.now) (rows_of (map (line_at bytes.now) rows.now)) types.new) }
+    ensures lists { OnOk result (AreNeighbours [] lists.old
+        → AreNeighbours (rows_of (map (line_at bytes.now) rows.now)) lists.new) }
+{
+    for line in rows {
+        place_line(alloc, bytes, names, types, lists, line)?;
+    }
+    Ok(())
+}
+
+/// The lattice of rows that have no fault, one for each of `sites` sites; `names` are the names of the site types in
+/// order. A site whose type word is no type has type 0.
+pub fn graph_of(
+    alloc: Global,
+    bytes: &[u8],
+    sites: u32,
+    names: &[Vec<u8>],
+    rows: &[Line],
+) -> Result<Graph, OutOfMemory>
+    requires has_a_site { 1 ≤ sites }
+    requires within_limit { sites ≤ MAX_SITES }
+    requires one_row_each { length rows.now ≡ sites }
+    requires names { length names.now ≤ 1000 }
+    requires faultless { first_fault (Some sites) (map (line_at bytes.now) rows.now) ≡ None }
+    ensures { IfOk result (λ g. g ≡ listed_lattice sites (map (λ name. name.items) names.now) (rows_of (map (line_at bytes.now) rows.now))) }
+{
+    let mut types = vec![in alloc; 0u16; sites as usize]?;
+    let mut lists = empty_lists(alloc, sites)?;
+    place_rows(
+        alloc,
+        bytes,
+        names,
+        types.as_mut_slice(),
+        lists.as_mut_slice(),
+        rows,
+    )?;
+    match Graph::new(types, lists) {
+        Ok(graph) => Ok(graph),
+        Err(_) => unreachable!(),
+    }
+}
