@@ -1,16 +1,16 @@
 -- Instances whose codes differ, in rising order of these.
-use Rattle.std.proofs.Common.{◌≡◌, ◌≢◌, ℕ, suc, ◌<◌, ◌≤◌, true, false, cond, eqb, ℤ, List, [], ◌∷◌, Option, map, get_or, length, Contains, refl, sym, ap, subst, arith, inl, inr}
+use Rattle.std.proofs.Common.{◌≡◌, ◌≢◌, ℕ, suc, ◌<◌, ◌≤◌, true, false, cond, eqb, ℤ, List, [], ◌∷◌, ◌++◌, Option, map, get_or, length, Contains, refl, sym, ap, ◌∙◌, subst, arith, inl, inr}
 use Rattle.std.specs.Prelude.{nat_lt}
 use Rattle.std.specs.List.{AllByRecursion, sum_by}
 use Rattle.std.specs.List.Sorted.{IsPermutation, IsNonDecreasingBy}
-use Rattle.std.proofs.lemmas.Bool.{cases_Bool, cases_lt, eq-eqb, eqb-true, ne_eqb, ltb-true, ltb-false}
+use Rattle.std.proofs.lemmas.Bool.{cases_Bool, cases_lt, lt-ltb, eq-eqb, eqb-true, ne_eqb, ltb-true, ltb-false}
 use Rattle.std.proofs.lemmas.List.Elements.{All-contains, All-from_recursion, recursion_from_All}
 use Rattle.std.proofs.lemmas.List.Sorted.{Contains-permutation, sum_by-IsPermutation, IsPermutation-refl, IsPermutation-sym, IsPermutation-cons, IsPermutation-middle, IsPermutation-trans}
 use Rattle.std.proofs.lemmas.List.Sums.{sum_by-cons, get_or-le-sum_by}
 use Rattle.kmc_base.proofs.EntryLists.{below-all}
 use Rattle.kmc_base.specs.Entries.{IsRising}
 use Rattle.pattern_list.proofs.Members.{in-none, in-first, in-rest, in-cases}
-use Rattle.kmc_core.proofs.Each.{all-map, all-from_map}
+use Rattle.kmc_core.proofs.Each.{all-map, all-from_map, all-weaker}
 use Rattle.kmc_core.specs.Instances.{inserted, by_code}
 
 -- the codes of instances
@@ -78,6 +78,29 @@ moved-by_code (offer ∷ offers) =
     IsPermutation-trans (offer ∷ offers) (offer ∷ by_code offers) (inserted offer (by_code offers))
     (IsPermutation-cons offer offers (by_code offers) (moved-by_code offers))
     (moved-inserted offer (by_code offers))
+
+-- ---- one part after another
+
+-- an instance whose code is below those of a later part stands before them
+inserted-before : (offer : ℕ × Option ℤ) (here later : List (ℕ × Option ℤ)) → AllByRecursion (λ (o : ℕ × Option ℤ). offer.0 < o.0) later → inserted offer (here ++ later) ≡ inserted offer here ++ later
+inserted-before offer [] [] below = refl
+inserted-before offer [] (next ∷ rest) below = let low = lt-ltb offer.0 next.0 below.0 in rw low refl
+inserted-before offer (next ∷ rest) later below =
+    elim (nat_lt offer.0 next.0) as (λ t. cond t (offer ∷ next ∷ rest ++ later) (next ∷ inserted offer (rest ++ later)) ≡ cond t (offer ∷ next ∷ rest) (next ∷ inserted offer rest) ++ later) [
+      | true ↦ refl
+      | false ↦ ap (λ offers. next ∷ offers) (inserted-before offer rest later below)
+    ]
+
+-- two parts, of which the first has all codes below a number and the second none
+pub by_code-append : (to : ℕ) (here later : List (ℕ × Option ℤ)) → AllByRecursion (λ (o : ℕ × Option ℤ). o.0 < to) here → AllByRecursion (λ (o : ℕ × Option ℤ). to ≤ o.0) later
+    → by_code (here ++ later) ≡ by_code here ++ by_code later
+unfolding by_code
+by_code-append to [] later low high = refl
+by_code-append to (offer ∷ here) later low high =
+    let first = low.0 in
+    ap (inserted offer) (by_code-append to here later low.1 high)
+    ∙ inserted-before offer (by_code here) (by_code later)
+    (all-by_code (λ (o : ℕ × Option ℤ). offer.0 < o.0) later (all-weaker (λ (o : ℕ × Option ℤ). to ≤ o.0) (λ (o : ℕ × Option ℤ). offer.0 < o.0) later (λ o above. omega arith) high))
 
 -- ---- sorted by code
 

@@ -1,3 +1,4 @@
+pub mod Anchors
 pub mod ByCode
 pub mod Each
 pub mod EntriesPushed

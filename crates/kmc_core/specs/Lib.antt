@@ -2,6 +2,7 @@ pub mod Deck
 pub mod Entities
 pub mod Firing
 pub mod Instances
+pub mod ListedProcess
 pub mod Offers
 pub mod PlainSystem
 pub mod Rate

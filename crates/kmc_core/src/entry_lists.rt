@@ -7,21 +7,22 @@ ghost use Rattle.lattice_core.specs.Lattice.{site_count};
 
 use crate::deck::PlainDeck;
 use crate::entries::Entries;
-use crate::listing::{Offer, list_instances};
-use crate::renewal::renew;
+use crate::listing::AnchorList;
+use crate::renewal::Renewal;
 use kmc_base::OutOfMemory;
 use lattice_core::Config;
-use named_draws::Draws;
 use std::alloc::Global;
+use std::marker::Brand;
+use std::sync::ledger::Blank;
 
-/// The entries of a run before an event and after it, and the instances between them.
+/// The entries of a run before an event and after it, and the instances with one anchor, by which the latter are made.
 ///
-/// The three lists are filled again at each event, in the memory that they have.
+/// All lists are filled again at each event, in the memory that they have.
 #[derive(Debug, Drop)]
 pub(crate) struct EntryLists {
     pub(crate) current: Entries,
     pub(crate) next: Entries,
-    offers: Vec<Offer>,
+    list: AnchorList,
 }
 
 impl EntryLists {
@@ -32,7 +33,7 @@ impl EntryLists {
         EntryLists {
             current: Entries::none(alloc),
             next: Entries::none(alloc),
-            offers: Vec::new(alloc),
+            list: AnchorList::none(alloc),
         }
     }
 
@@ -53,15 +54,17 @@ impl EntryLists {
         ensures next { OnOk result (self.new.next
             ≡ renewed deck.now.plan.seed event self.old.current first ((system_of deck.now).offers config.now)) }
     {
-        list_instances(&mut self.offers, alloc, deck, config)?;
-        let mut draws = Draws::new(deck.plan.seed);
-        renew(
+        self.next.clear();
+        self.next.reserve(self.current.as_slice().len())?;
+        let mut renewal = Renewal::new(deck.plan.seed, event, first);
+        renewal.renew::<Brand>(
             &mut self.next,
             self.current.as_slice(),
-            first,
-            &self.offers,
-            &mut draws,
-            event,
+            &mut self.list,
+            alloc,
+            deck,
+            config,
+            Blank::new(1),
         )
     }
 
@@ -72,7 +75,7 @@ impl EntryLists {
         EntryLists {
             current: self.next,
             next: self.current,
-            offers: self.offers,
+            list: self.list,
         }
     }
 }

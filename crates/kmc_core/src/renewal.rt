@@ -1,14 +1,23 @@
-ghost use Rattle.std.specs.Prelude.{◌≡◌, ℕ, ◌^◌, ◌<◌, ◌≤◌, OnOk, IfSome, Some, map, slice_get, option_copied};
+ghost use Rattle.std.specs.Prelude.{◌≡◌, ℕ, ◌+◌, ◌*◌, ◌^◌, ◌<◌, ◌≤◌, ◌++◌, OnOk, IfOk, IfSome, Some, length, map, slice_get, option_copied};
 ghost use Rattle.std.specs.List.{AllByRecursion};
 ghost use Rattle.kmc_base.specs.Entries.{IsRising, codes_of, kept_or, entry_at};
-ghost use Rattle.kmc_core.specs.Trajectory.{fresh, renewed};
+ghost use Rattle.kmc_core.specs.Deck.{IsSound};
+ghost use Rattle.kmc_core.specs.Instances.{by_code, instances_of};
+ghost use Rattle.kmc_core.specs.ListedProcess.{IsListed};
 ghost use Rattle.kmc_core.specs.Offers.{IsOffer};
+ghost use Rattle.kmc_core.specs.PlainSystem.{system_of};
+ghost use Rattle.kmc_core.specs.Trajectory.{fresh, renewed};
+ghost use Rattle.lattice_core.specs.Lattice.{site_count};
 
+use crate::deck::PlainDeck;
 use crate::entries::Entries;
-use crate::listing::Offer;
+use crate::listing::{AnchorList, ListedProcess, Offer};
 use fixed_math::wait;
-use kmc_base::{Entry, OutOfMemory};
+use kmc_base::{Entry, OutOfMemory, SiteId};
+use lattice_core::{Config, Steps};
 use named_draws::Draws;
+use std::alloc::Global;
+use std::sync::ledger::{Blank, Ledger};
 
 /// An instance whose waiting time is drawn at an event, at the event's time.
 fn fresh_entry(draws: &mut Draws, event: u64, time: u128, offer: Offer) -> Entry
@@ -79,30 +88,110 @@ fn entry_of(entries: &[Entry], code: u128) -> Option<&Entry>
     }
 }
 
-/// Makes a list the entries after an event, for the instances that the whole lattice offers: kept, or
-/// drawn at the event. The old entries and the instances are in rising order of codes, and are merged.
-pub(crate) fn renew(
-    entries: &mut Entries,
-    old: &[Entry],
-    first: (u128, u128),
-    offers: &[Offer],
-    draws: &mut Draws,
+/// An event, after which each instance has an entry that is kept or drawn: its number, its time and the code that it
+/// fired, and the draws of the run.
+#[derive(Drop)]
+pub(crate) struct Renewal {
     event: u64,
-) -> Result<(), OutOfMemory>
-    requires time { first.0 ≤ 10 ^ 30 }
-    requires old { IsRising (codes_of old.now) }
-    requires rising { IsRising (map (λ offer. offer.0) offers.now) }
-    requires offers { AllByRecursion IsOffer offers.now }
-    ensures value { OnOk result (entries.new ≡ renewed draws.old event old.now first offers.now) }
-    ensures seed { draws.new ≡ draws.old }
-{
-    entries.clear();
-    entries.reserve(offers.len())?;
-    let mut rest = old;
-    for offer in offers {
-        rest = skip_below(rest, offer.0);
-        let entry = entry_of(rest, offer.0);
-        entries.push(renewed_entry(entry, first, draws, event, *offer))?;
+    first: (u128, u128),
+    draws: Draws,
+}
+
+impl Renewal {
+    /// An event of a run with this random seed.
+    pub(crate) fn new(seed: u64, event: u64, first: (u128, u128)) -> Renewal
+        ensures { result ≡ record { event = event; first = first; draws = seed } }
+    {
+        Renewal {
+            event,
+            first,
+            draws: Draws::new(seed),
+        }
     }
-    Ok(())
+
+    /// Adds the entries of some instances, and gives what is left of the old entries for those with greater codes. Old
+    /// entries and instances are in rising order of codes, and are merged.
+    fn merge<'a>(
+        &mut self,
+        entries: &mut Entries,
+        old: &'a [Entry],
+        offers: &[Offer],
+    ) -> Result<&'a [Entry], OutOfMemory>
+        requires time { self.old.first.0 ≤ 10 ^ 30 }
+        requires old { IsRising (codes_of old.now) }
+        requires rising { IsRising (map (λ offer. offer.0) offers.now) }
+        requires offers { AllByRecursion IsOffer offers.now }
+        ensures value { OnOk result (entries.new ≡ entries.old ++ renewed self.old.draws self.old.event old.now self.old.first offers.now) }
+        ensures rest { IfOk result (λ rest. IsRising (codes_of rest.now)) }
+        ensures later { IfOk result (λ rest. (c : ℕ) → AllByRecursion (λ offer. offer.0 ≤ c) offers.now → entry_at c rest.now ≡ entry_at c old.now) }
+        ensures same { self.new ≡ self.old }
+    {
+        let mut rest = old;
+        for offer in offers {
+            rest = skip_below(rest, offer.0);
+            let entry = entry_of(rest, offer.0);
+            let entry = renewed_entry(entry, self.first, &mut self.draws, self.event, *offer);
+            entries.push(entry)?;
+        }
+        Ok(rest)
+    }
+
+    /// Adds the entries of all instances of a process, one anchor after another, and gives what is left of the old
+    /// entries for the processes after it.
+    fn renew_process<'a, L: Ledger>(
+        &mut self,
+        entries: &mut Entries,
+        old: &'a [Entry],
+        list: &mut AnchorList,
+        alloc: Global,
+        listed: &ListedProcess<'_>,
+        steps: &mut Steps<L>,
+    ) -> Result<&'a [Entry], OutOfMemory>
+        requires time { self.old.first.0 ≤ 10 ^ 30 }
+        requires old { IsRising (codes_of old.now) }
+        requires listed { IsListed listed.now }
+        ensures value { OnOk result (entries.new ≡ entries.old ++ renewed self.old.draws self.old.event old.now self.old.first
+            (by_code (instances_of listed.now.deck.now.temperature listed.now.deck.now.graph listed.now.config.now listed.now.number listed.now.process.now))) }
+        ensures rest { IfOk result (λ rest. IsRising (codes_of rest.now)) }
+        ensures later { IfOk result (λ rest. (c : ℕ) → (listed.now.number + 1) * 2 ^ 55 ≤ c → entry_at c rest.now ≡ entry_at c old.now) }
+        ensures same { self.new ≡ self.old }
+    {
+        let mut rest = old;
+        for anchor in 0..listed.deck.graph.len() {
+            list.fill(alloc, listed, SiteId(anchor), steps)?;
+            rest = self.merge(entries, rest, &list.offers)?;
+        }
+        Ok(rest)
+    }
+
+    /// Adds the entries of all instances on the whole lattice, one process after another: kept, or drawn at the event.
+    pub(crate) fn renew<L: Ledger>(
+        &mut self,
+        entries: &mut Entries,
+        old: &[Entry],
+        list: &mut AnchorList,
+        alloc: Global,
+        deck: &PlainDeck,
+        config: &Config,
+        blank: Blank,
+    ) -> Result<(), OutOfMemory>
+        requires name { blank.name ≡ L.name }
+        requires parts { blank.parts ≡ L.parts }
+        requires has_a_part { 0 < L.parts }
+        requires time { self.old.first.0 ≤ 10 ^ 30 }
+        requires old { IsRising (codes_of old.now) }
+        requires deck { IsSound deck.now }
+        requires configuration { length config.now ≡ site_count deck.now.graph }
+        ensures { OnOk result (entries.new ≡ entries.old
+            ++ renewed self.old.draws self.old.event old.now self.old.first ((system_of deck.now).offers config.now)) }
+    {
+        // No one looks at this count of reads.
+        let mut steps = Steps::<L>::new(blank);
+        let mut rest = old;
+        for (number, process) in deck.processes.as_slice().iter().enumerate() {
+            let listed = ListedProcess::new(deck, config, number as u16, process);
+            rest = self.renew_process(entries, rest, list, alloc, &listed, &mut steps)?;
+        }
+        Ok(())
+    }
 }

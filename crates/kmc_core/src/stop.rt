@@ -18,7 +18,7 @@ pub enum Stop {
 }
 
 /// The greatest number of samples of an output.
-const MOST_SAMPLES: u128 = 10_000_000;
+const MAX_SAMPLES: u128 = 10_000_000;
 
 /// The end of time in as, where the deck has none of its own.
 const END_OF_TIME: u128 = 1_000_000_000_000_000_000_000_000_000_000;
@@ -42,7 +42,7 @@ fn is_full(sampling: Sampling, event: u64, time: u128) -> bool
     requires time { time ≤ 10 ^ 30 }
     ensures { result ≡ is_full_at sampling event time }
 {
-    MOST_SAMPLES <= samples_due(sampling, event, time)
+    MAX_SAMPLES <= samples_due(sampling, event, time)
 }
 
 /// Whether some output has as many samples as it may have.

@@ -1,16 +1,19 @@
-use Rattle.std.proofs.Common.{◌≡◌, ℕ, ◌+◌, ℤ, List, ◌∷◌, ◌++◌, Option, None, Some, drop, map, get_or, ap, subst, ◌∙◌, arith}
+use Rattle.std.proofs.Common.{◌≡◌, ℕ, ◌+◌, ◌≤◌, ℤ, List, ◌∷◌, ◌++◌, Option, None, Some, drop, map, get_or, ap, subst, ◌∙◌, arith}
 use Rattle.std.proofs.lemmas.List.{drop_more}
+use Rattle.std.proofs.lemmas.List.Elements.{All-from_recursion}
 use Rattle.std.specs.List.{AllByRecursion}
 use Rattle.std.specs.Option.{option_copied}
 use Rattle.kmc_base.specs.Entries.{IsRising, entry_at, kept_or}
 use Rattle.kmc_core.specs.Offers.{IsOffer}
 use Rattle.kmc_core.specs.Trajectory.{fresh, renewed}
+use Rattle.kmc_core.specs.declared.renewal.Renewal.{Renewal}
 use Rattle.kmc_core.proofs.Merging.{found_later, renewed_more}
-use Rattle.kmc_core.proofs.renewal.renew.Goals as goal
+use Rattle.kmc_core.proofs.renewal.Renewal.merge.Goals as goal
 
 pub loop-offer-preserved : goal.loop-offer-preserved
 loop-offer-preserved c =
     let kept = c.loop-offer.invariant in
+    let event = c.args.self.now in
     let old = c.args.old.now in
     let offers = c.args.offers.now in
     let i = c.loop-offer.offer-index in
@@ -22,13 +25,16 @@ loop-offer-preserved c =
     let same = c.skip_below-rest.ensures.same in
     let at : option_copied c.entry_of-entry.result ≡ entry_at offer.0 old =
     c.entry_of-entry.ensures ∙ (same offer.0 (omega arith) ∙ found.0) in
-    let is = c.renewed_entry.ensures.value ∙ ap (λ e. kept_or (Some c.args.first.1) e (fresh c.loop-offer.draws c.args.event c.args.first.0 offer)) at in
-    let whole = subst (λ (os : List (ℕ × Option ℤ)). c.loop-offer.entries ++ renewed c.loop-offer.draws c.args.event old c.args.first os ≡ renewed c.args.draws.now c.args.event old c.args.first offers) cut kept.done in
+    let is = c.renewed_entry-entry.ensures.value
+    ∙ ap (λ (e : Renewal). kept_or (Some e.first.1) (option_copied c.entry_of-entry.result) (fresh e.draws e.event e.first.0 offer)) kept.same
+    ∙ ap (λ e. kept_or (Some event.first.1) e (fresh event.draws event.event event.first.0 offer)) at in
+    let whole = subst (λ (os : List (ℕ × Option ℤ)). c.loop-offer.entries ++ renewed event.draws event.event old event.first os ≡ c.args.entries.now ++ renewed event.draws event.event old event.first offers) cut kept.done in
     record {
-      done = rw c.renewed_entry.ensures.seed (renewed_more c.loop-offer.draws c.args.event old c.args.first c.loop-offer.entries c.push.new.self _ _ offer others c.in_ok-push.ensures.ok is whole);
-      seed = c.renewed_entry.ensures.seed ∙ kept.seed;
+      done = renewed_more event.draws event.event old event.first c.loop-offer.entries c.push.new.self _ _ offer others c.in_ok-push.ensures.ok is whole;
+      same = ap (λ draws. record c.loop-offer.self { draws = draws }) c.renewed_entry-entry.ensures.seed ∙ kept.same;
       rest = c.skip_below-rest.ensures.rising;
       found = found_later old c.loop-offer.rest.now c.skip_below-rest.result.now offer.0 others rising.0 same found.1;
+      later = λ code all. same code (All-from_recursion (λ (o : ℕ × Option ℤ). o.0 ≤ code) offers all i (0, None) (omega arith)) ∙ kept.later code all;
       rising = rising.1;
       offers = (subst (AllByRecursion IsOffer) cut kept.offers).1;
     }
