@@ -75,7 +75,7 @@ fn sevens(piece: u32) -> Found
     Found { piece, value }
 }
 
-// Each of two passes claims a piece. While the first has the turn, the second puts nothing.
+// Each of two passes claims a piece. While the first has the turn, it puts its finding, and the second puts nothing.
 fn row(rt: &impl Abort, alloc: Global, once_more: bool) -> Result<(Tally, Report), OutOfMemory> {
     let tally = blank(alloc)?;
     let (board, mut owner, mut passes) = match Board::new(alloc, tally, (), 5, 2) {
@@ -92,7 +92,7 @@ fn row(rt: &impl Abort, alloc: Global, once_more: bool) -> Result<(Tally, Report
 
     assert!(rt; board.claim(&mut first) == Some(0));
     assert!(rt; board.claim(&mut second) == Some(1));
-    let Ok(turn) = board.take(&mut first) else {
+    let Ok(mut turn) = board.take(&mut first) else {
         panic!(rt; "the turn is free")
     };
     match board.try_put(&mut second, sevens(1)) {
@@ -101,6 +101,7 @@ fn row(rt: &impl Abort, alloc: Global, once_more: bool) -> Result<(Tally, Report
         ),
         _ => panic!(rt; "the first has the turn"),
     }
+    assert!(rt; turn.put(sevens(0)).is_ok());
     board.give(&mut first, turn);
     assert!(rt; board.try_put(&mut second, sevens(1)).is_ok());
     if once_more {
@@ -115,7 +116,7 @@ fn row(rt: &impl Abort, alloc: Global, once_more: bool) -> Result<(Tally, Report
 fn a_put_waits_for_the_turn(rt: HostRuntime) -> Result<(), Fail> {
     for (once_more, claimed) in [(false, 3), (true, 7)] {
         let (tally, report) = row(&rt, rt.alloc(), once_more)?;
-        assert_eq!(rt; report, Report { claimed, done: 2 });
+        assert_eq!(rt; report, Report { claimed, done: 3 });
         assert_eq!(rt; tally.sums.as_slice(), [0, 7, 0, 0, 0].as_slice());
     }
     Ok(())

@@ -117,7 +117,7 @@ fn with_power(negative: bool, digits: u64, power: i128) -> Result<Decimal, Decim
 }
 
 /// A size with its sign.
-pub fn signed(negative: bool, size: u128) -> i128
+pub(crate) fn signed(negative: bool, size: u128) -> i128
     requires { size < 2 ^ 126 }
     ensures value { result ≡ signed negative size }
     ensures low { neg_ℤ (pos size) ≤ℤ result }

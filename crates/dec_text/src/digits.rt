@@ -6,7 +6,7 @@ ghost use Rattle.dec_text.specs.Wholes.{after_plus, whole_number};
 use crate::faults::NotWhole;
 
 /// Where the reading of a whole number stops counting.
-pub const CAP: u128 = 1 << 100;
+pub(crate) const CAP: u128 = 1 << 100;
 
 /// Reads a whole number below 2^64: one digit or more, after an optional `+`.
 ///
@@ -40,7 +40,7 @@ fn after_plus(word: &[u8]) -> &[u8]
 
 /// Whether the bytes are one digit or more, and nothing else.
 #[tactic(auto, using(crate::proofs::Filled::is_filled_full, crate::proofs::Filled::is_filled_empty))]
-pub fn are_digits(bytes: &[u8]) -> bool
+pub(crate) fn are_digits(bytes: &[u8]) -> bool
     ensures { result ≡ are_digits bytes.now }
 {
     !bytes.is_empty() && all_digits(bytes)
@@ -53,14 +53,14 @@ fn all_digits(bytes: &[u8]) -> bool
 }
 
 /// Whether a byte is a digit.
-pub fn is_digit(byte: u8) -> bool
+pub(crate) fn is_digit(byte: u8) -> bool
     ensures { result ≡ is_digit byte }
 {
     b'0' <= byte && byte <= b'9'
 }
 
 /// The number that digits stand for, or `CAP` where it is larger.
-pub fn capped_number(digits: &[u8]) -> u128
+pub(crate) fn capped_number(digits: &[u8]) -> u128
     ensures { result ≡ min CAP (number digits.now) }
 {
     let mut value = 0u128;

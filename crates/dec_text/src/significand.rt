@@ -10,17 +10,17 @@ const COUNTED: u32 = 18;
 
 /// The significant digits of a number: the first 18 of them count.
 #[derive(Clone, Copy)]
-pub struct Significand {
+pub(crate) struct Significand {
     /// The number of the digits that count.
-    pub digits: u64,
+    pub(crate) digits: u64,
     /// How many digits count.
-    pub count: u32,
+    pub(crate) count: u32,
     /// How many digits after them do not count.
-    pub dropped: usize,
+    pub(crate) dropped: usize,
 }
 
 /// The significant digits of a mantissa.
-pub fn significant_part(mantissa: &[u8]) -> Significand
+pub(crate) fn significant_part(mantissa: &[u8]) -> Significand
     ensures { Keeps result (significant mantissa.now) }
 {
     let mut kept = Significand {
@@ -62,7 +62,7 @@ fn with_digit(kept: Significand, digit: u8) -> Significand
 }
 
 /// A number without the zeros at its end, and how many these are.
-pub fn without_zeros(digits: u64) -> (u64, u64)
+pub(crate) fn without_zeros(digits: u64) -> (u64, u64)
     requires { 0 < digits }
     ensures positive { 0 < result.0 % 10 }
     ensures smaller { result.0 ≤ digits }

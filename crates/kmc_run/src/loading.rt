@@ -9,7 +9,7 @@ use kmc_base::{FileId, Folder, Items, LoadFault};
 use std::alloc::Global;
 
 /// The greatest number of bytes of an input file.
-const MOST_BYTES: usize = 16_777_216;
+const MAX_BYTES: usize = 16_777_216;
 
 /// The text of an input file.
 fn load_text<F: Folder>(alloc: Global, folder: &mut F, file: FileId) -> Result<Text, Status>
@@ -23,8 +23,8 @@ fn load_text<F: Folder>(alloc: Global, folder: &mut F, file: FileId) -> Result<T
     ensures files { F.files folder.new ≡ F.files folder.old }
     ensures outs { F.outs folder.new ≡ F.outs folder.old }
 {
-    match folder.load(alloc, file, MOST_BYTES) {
-        Ok(bytes) if bytes.len() <= MOST_BYTES => Ok(Text::Bytes(Items::new(bytes))),
+    match folder.load(alloc, file, MAX_BYTES) {
+        Ok(bytes) if bytes.len() <= MAX_BYTES => Ok(Text::Bytes(Items::new(bytes))),
         Ok(_) | Err(LoadFault::TooLong) => Ok(Text::TooLong),
         Err(LoadFault::Absent) => Ok(Text::Absent),
         Err(LoadFault::Failed) => Err(Status::ReadFault(file)),

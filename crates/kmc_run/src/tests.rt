@@ -433,10 +433,24 @@ fn answers_with_its_cause(rt: HostRuntime) -> Result<(), Fail> {
 }
 
 #[test]
+fn numbers_of_statuses(rt: HostRuntime) {
+    for (status, number) in [
+        (Status::Done, 0),
+        (Status::BadWords, 2),
+        (refused(FileId::Lattice, 2, kind::SELF_NEIGHBOUR), 3),
+        (Status::ReadFault(FileId::Lattice), 4),
+        (Status::WriteFault(OutId::Specnum), 5),
+        (Status::ScreenFault, 6),
+        (Status::OutOfMemory, 7),
+    ] {
+        assert_eq!(rt; status.number(), number);
+    }
+}
+
+#[test]
 fn refuses_a_file_that_is_too_long(rt: HostRuntime) -> Result<(), Fail> {
     let long = String::from_utf8(vec![in rt.alloc(); b' '; 16_777_217]?)?;
     let status = refused(FileId::Lattice, 0, kind::FILE_TOO_LONG);
-    assert_eq!(rt; status.number(), 3);
     refuses(&rt, rt.alloc(), "finish\n", &long, ENERGETICS, "", status)
 }
 

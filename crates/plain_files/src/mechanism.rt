@@ -10,7 +10,7 @@ ghost use Rattle.plain_files.specs.Steps.{IsPlainState, IsPlainStep, step_view};
 use crate::name::is_name;
 use crate::step_text::StepText;
 use crate::text::{
-    MOST_DIGITS, next_line, nothing_more, number_after, number_of, split_once, two_words,
+    MAX_DIGITS, next_line, nothing_more, number_after, number_of, split_once, two_words,
     word_after, words_only,
 };
 use kmc_base::{OutOfMemory, SpeciesId};
@@ -18,13 +18,13 @@ use species_book::SpeciesBook;
 use std::alloc::Global;
 
 /// The most steps of a mechanism.
-const MOST_STEPS: usize = 16;
+const MAX_STEPS: usize = 16;
 
 /// The greatest power of ten of a pre-exponential factor.
-const GREATEST_POWER: u64 = 400;
+const MAX_POWER: u64 = 400;
 
 /// The greatest activation energy, in eV.
-const GREATEST_ACTIVATION: u64 = 1000;
+const MAX_ACTIVATION: u64 = 1000;
 
 /// A number and its power of ten, with the trailing zeros of the number in the power.
 #[tactic(auto, unfolding(crate::specs::Mechanism::shortened))]
@@ -36,7 +36,7 @@ fn shortened(number: u64, exponent: u64) -> (u64, u64)
 {
     let mut digits = number;
     let mut power = exponent;
-    for _ in 0..MOST_DIGITS {
+    for _ in 0..MAX_DIGITS {
         if digits == 0 {
             return (0, 0);
         }
@@ -92,7 +92,7 @@ fn factor_of(word: &[u8]) -> Option<(u64, u32)>
 {
     let (digits, power) = digits_and_power(word)?;
     let (digits, power) = shortened(digits, power);
-    if power <= GREATEST_POWER {
+    if power <= MAX_POWER {
         Some((digits, power as u32))
     } else {
         None
@@ -175,7 +175,7 @@ fn first_step<'a>(book: &SpeciesBook, text: &'a [u8]) -> Option<(StepText<'a>, &
     let ((digits, power), rest) = factor_after(rest)?;
     let (activation, rest) = number_after(b"activ_eng", rest)?;
     let rest = words_only(b"end_step", rest)?;
-    if is_name(label) && activation <= GREATEST_ACTIVATION {
+    if is_name(label) && activation <= MAX_ACTIVATION {
         let step = StepText {
             label,
             before,
@@ -256,7 +256,7 @@ fn steps_from<'a>(
 {
     let mut steps = Vec::new(alloc);
     let mut rest = text;
-    for _ in 0..MOST_STEPS {
+    for _ in 0..MAX_STEPS {
         if closes(rest) {
             return Ok(closed(steps, rest));
         }

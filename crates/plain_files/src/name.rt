@@ -6,7 +6,7 @@ ghost use Rattle.std.specs.List.{list_all};
 ghost use Rattle.plain_files.specs.Names.{is_name};
 
 /// The most bytes of a name.
-const LONGEST_NAME: usize = 32;
+const MAX_NAME_BYTES: usize = 32;
 
 /// The byte may stand in a name.
 fn is_name_byte(byte: u8) -> bool
@@ -27,5 +27,5 @@ fn has_name_bytes(word: &[u8]) -> bool
 pub(crate) fn is_name(word: &[u8]) -> bool
     ensures { result ≡ is_name word.now }
 {
-    1 <= word.len() && word.len() <= LONGEST_NAME && has_name_bytes(word)
+    1 <= word.len() && word.len() <= MAX_NAME_BYTES && has_name_bytes(word)
 }

@@ -4,7 +4,7 @@ ghost use Rattle.std.specs.Prelude.{◌≡◌, [], ◌∷◌, IfNone, IfSome, po
 ghost use Rattle.plain_files.specs.Text.{Finds, pieces, lines_between, lines_of, words_behind, one_word, two_words, number_of, words_only, word_after, number_after, nothing};
 
 /// The most digits of a number.
-pub(crate) const MOST_DIGITS: usize = 18;
+pub(crate) const MAX_DIGITS: usize = 18;
 
 /// The place of the first separator.
 fn place_of(text: &[u8], separator: u8) -> Option<usize>
@@ -77,7 +77,7 @@ pub(crate) fn number_of(word: &[u8]) -> Option<u64>
     ensures number { Finds (λ number. number) result (number_of word.now) }
     ensures small { IfSome result (λ number. number < 10 ^ 18) }
 {
-    if word.is_empty() || word.len() > MOST_DIGITS {
+    if word.is_empty() || word.len() > MAX_DIGITS {
         return None;
     }
     let mut number = 0;
