@@ -15,14 +15,15 @@ use std::alloc::Global;
 use std::marker::Brand;
 use std::sync::ledger::Blank;
 
-/// The entries of a run before an event and after it, and the instances with one anchor, by which the latter are made.
+/// The entries of a run before an event and after it, and the instances of one process with one anchor, from which the
+/// latter are made.
 ///
-/// All lists are filled again at each event, in the memory that they have.
+/// These lists are filled again at each event, in the memory that they have.
 #[derive(Debug, Drop)]
 pub(crate) struct EntryLists {
     pub(crate) current: Entries,
     pub(crate) next: Entries,
-    list: AnchorList,
+    at_anchor: AnchorList,
 }
 
 impl EntryLists {
@@ -33,7 +34,7 @@ impl EntryLists {
         EntryLists {
             current: Entries::none(alloc),
             next: Entries::none(alloc),
-            list: AnchorList::none(alloc),
+            at_anchor: AnchorList::none(alloc),
         }
     }
 
@@ -55,12 +56,13 @@ impl EntryLists {
             ≡ renewed deck.now.plan.seed event self.old.current first ((system_of deck.now).offers config.now)) }
     {
         self.next.clear();
+        // An event changes few instances: about as many entries come after it as before it.
         self.next.reserve(self.current.as_slice().len())?;
         let mut renewal = Renewal::new(deck.plan.seed, event, first);
         renewal.renew::<Brand>(
             &mut self.next,
             self.current.as_slice(),
-            &mut self.list,
+            &mut self.at_anchor,
             alloc,
             deck,
             config,
@@ -75,7 +77,7 @@ impl EntryLists {
         EntryLists {
             current: self.next,
             next: self.current,
-            list: self.list,
+            at_anchor: self.at_anchor,
         }
     }
 }

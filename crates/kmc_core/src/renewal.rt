@@ -88,11 +88,12 @@ fn entry_of(entries: &[Entry], code: u128) -> Option<&Entry>
     }
 }
 
-/// An event, after which each instance has an entry that is kept or drawn: its number, its time and the code that it
-/// fired, and the draws of the run.
+/// By what the entries after an event are made: its number, what fired, and the draws of the run. At the opening this is
+/// event 0 with (0, 0): there are no old entries, so no code is looked at.
 #[derive(Drop)]
 pub(crate) struct Renewal {
     event: u64,
+    // The time of the event in as, and the code that fired.
     first: (u128, u128),
     draws: Draws,
 }
