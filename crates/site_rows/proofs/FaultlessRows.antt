@@ -45,7 +45,7 @@ six_parts a b c d e f i j k l m n none =
 faults_parts : (sites : Option ℕ) (above all : List SiteRow) (row : SiteRow) → first_that_holds (row_faults sites above all row) ≡ None
     → (row_for row.site above ≡ None) × SoundRow sites all row
 faults_parts sites above all row none =
-    let parts = six_parts row.is_past (is_some (row_for row.site above)) (has_bad_site sites row) (is_listed row.neighbours row.site)
+    let parts = six_parts row.is_out_of_range (is_some (row_for row.site above)) (has_bad_site sites row) (is_listed row.neighbours row.site)
     (nat_lt MAX_NEIGHBOURS (length (each_once row.neighbours))) (list_any (is_one_sided sites all row.site) row.neighbours)
     OutOfRange Repeated BadSite SelfNeighbour TooManyNeighbours OneSided none in
     (none-from_test (row_for row.site above) parts.0, record { in_range = parts.1; not_own = parts.2; few = parts.3; two_sided = parts.4 })

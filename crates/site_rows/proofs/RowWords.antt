@@ -9,7 +9,7 @@ use Rattle.dec_text.specs.Spans.{bytes_at, line_at, run_at}
 use Rattle.dec_text.specs.declared.lines.Line.{Line}
 use Rattle.dec_text.specs.declared.lines.Span.{Span}
 use Rattle.site_rows.specs.Words.{row_words}
-use Rattle.site_rows.specs.SiteRows.{SiteRow, is_one_past, neighbours_of, site_row}
+use Rattle.site_rows.specs.SiteRows.{SiteRow, is_either_out_of_range, neighbours_of, site_row}
 
 -- the words of spans
 pub words_at : (text : List ℕ) (words : List Span) → map (bytes_at text) words ≡ map (λ word. word.bytes) (map (run_at text) words)
@@ -23,9 +23,9 @@ row_words_at text line words are = sym (ap (map (bytes_at text)) are ∙ words_a
 abbrev pub row_made : Option ℕ → Option Bool → Option ℕ → List ℕ → List (List ℕ) → Option SiteRow
 row_made first past count t words =
     option_and_then (λ site.
-    option_and_then (λ is_past.
+    option_and_then (λ is_out_of_range.
     option_and_then (λ n.
-    option_map (λ neighbours. record { site = site; type_word = t; neighbours = neighbours; is_past = is_past }) (neighbours_of n words))
+    option_map (λ neighbours. record { site = site; type_word = t; neighbours = neighbours; is_out_of_range = is_out_of_range }) (neighbours_of n words))
     count) past) first
 
 pub short_row : {X : Type 0} (h : X → List ℕ) (words : List X) → length words < 5 → site_row (map h words) ≡ None
@@ -38,7 +38,7 @@ short_row h (a ∷ x ∷ y ∷ t ∷ n ∷ words) short = absurd (omega arith)
 
 pub long_row : {X : Type 0} (h : X → List ℕ) (words : List X) (d : X) → 5 ≤ length words
     → site_row (map h words)
-    ≡ row_made (result_ok (whole_number (h (get_or words 0 d)))) (is_one_past (h (get_or words 1 d)) (h (get_or words 2 d))) (result_ok (whole_number (h (get_or words 4 d))))
+    ≡ row_made (result_ok (whole_number (h (get_or words 0 d)))) (is_either_out_of_range (h (get_or words 1 d)) (h (get_or words 2 d))) (result_ok (whole_number (h (get_or words 4 d))))
     (h (get_or words 3 d)) (map h (drop 5 words))
 long_row h [] d long = absurd (omega arith)
 long_row h (a ∷ []) d long = absurd (omega arith)
@@ -59,10 +59,10 @@ without_count (Some s) (Some p) t words = refl
 pub row_without_site : {X : Type 0} (h : X → List ℕ) (words : List X) (d : X) → 5 ≤ length words → result_ok (whole_number (h (get_or words 0 d))) ≡ None → site_row (map h words) ≡ None
 row_without_site h words d long none =
     long_row h words d long
-    ∙ ap (λ first. row_made first (is_one_past (h (get_or words 1 d)) (h (get_or words 2 d))) (result_ok (whole_number (h (get_or words 4 d)))) (h (get_or words 3 d)) (map h (drop 5 words))) none
+    ∙ ap (λ first. row_made first (is_either_out_of_range (h (get_or words 1 d)) (h (get_or words 2 d))) (result_ok (whole_number (h (get_or words 4 d)))) (h (get_or words 3 d)) (map h (drop 5 words))) none
 
 pub row_without_decimals : {X : Type 0} (h : X → List ℕ) (words : List X) (d : X) → 5 ≤ length words
-    → is_one_past (h (get_or words 1 d)) (h (get_or words 2 d)) ≡ None → site_row (map h words) ≡ None
+    → is_either_out_of_range (h (get_or words 1 d)) (h (get_or words 2 d)) ≡ None → site_row (map h words) ≡ None
 row_without_decimals h words d long none =
     long_row h words d long
     ∙ ap (λ past. row_made (result_ok (whole_number (h (get_or words 0 d)))) past (result_ok (whole_number (h (get_or words 4 d)))) (h (get_or words 3 d)) (map h (drop 5 words))) none
@@ -70,20 +70,20 @@ row_without_decimals h words d long none =
 
 pub row_without_count : {X : Type 0} (h : X → List ℕ) (words : List X) (d : X) → 5 ≤ length words → result_ok (whole_number (h (get_or words 4 d))) ≡ None → site_row (map h words) ≡ None
 row_without_count h words d long none =
-    let past = is_one_past (h (get_or words 1 d)) (h (get_or words 2 d)) in
+    let past = is_either_out_of_range (h (get_or words 1 d)) (h (get_or words 2 d)) in
     long_row h words d long
     ∙ ap (λ count. row_made (result_ok (whole_number (h (get_or words 0 d)))) past count (h (get_or words 3 d)) (map h (drop 5 words))) none
     ∙ without_count (result_ok (whole_number (h (get_or words 0 d)))) past (h (get_or words 3 d)) (map h (drop 5 words))
 
 made_without : (first : Option ℕ) (past : Option Bool) (count : Option ℕ) (t : List ℕ) (words : List (List ℕ)) (s : ℕ) (p : Bool) (n : ℕ)
     → first ≡ Some s → past ≡ Some p → count ≡ Some n → neighbours_of n words ≡ None → row_made first past count t words ≡ None
-made_without first past count t words s p n is_first is_past is_count none = rw (is_first, is_past, is_count, none) refl
+made_without first past count t words s p n is_first is_out_of_range is_count none = rw (is_first, is_out_of_range, is_count, none) refl
 
 pub row_without_neighbours : {X : Type 0} (h : X → List ℕ) (words : List X) (d : X) (s : ℕ) (p : Bool) (n : ℕ) → 5 ≤ length words
-    → result_ok (whole_number (h (get_or words 0 d))) ≡ Some s → is_one_past (h (get_or words 1 d)) (h (get_or words 2 d)) ≡ Some p
+    → result_ok (whole_number (h (get_or words 0 d))) ≡ Some s → is_either_out_of_range (h (get_or words 1 d)) (h (get_or words 2 d)) ≡ Some p
     → result_ok (whole_number (h (get_or words 4 d))) ≡ Some n → neighbours_of n (map h (take (length words - 5) (drop 5 words))) ≡ None → site_row (map h words) ≡ None
 row_without_neighbours h words d s p n long first past count none =
     let whole : take (length words - 5) (drop 5 words) ≡ drop 5 words = take_all (length words - 5) (drop 5 words) (omega (arith, length-drop 5 words)) in
     long_row h words d long
-    ∙ made_without (result_ok (whole_number (h (get_or words 0 d)))) (is_one_past (h (get_or words 1 d)) (h (get_or words 2 d))) (result_ok (whole_number (h (get_or words 4 d)))) (h (get_or words 3 d)) (map h (drop 5 words)) s p n
+    ∙ made_without (result_ok (whole_number (h (get_or words 0 d)))) (is_either_out_of_range (h (get_or words 1 d)) (h (get_or words 2 d))) (result_ok (whole_number (h (get_or words 4 d)))) (h (get_or words 3 d)) (map h (drop 5 words)) s p n
     first past count (sym (ap (λ ws. neighbours_of n (map h ws)) whole) ∙ none)

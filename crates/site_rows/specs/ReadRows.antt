@@ -10,5 +10,5 @@ row_at text row = record {
   site = row.site;
   type_word = bytes_at text row.type_word;
   neighbours = row.neighbours.items;
-  is_past = row.is_past;
+  is_out_of_range = row.is_out_of_range;
 }

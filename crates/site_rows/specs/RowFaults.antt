@@ -27,7 +27,7 @@ is_one_sided sites all site neighbour =
 -- what may be wrong with a row, in the order in which it counts
 abbrev pub row_faults : Option ℕ → List SiteRow → List SiteRow → SiteRow → List (Bool × RowFault)
 row_faults sites above all row =
-    (row.is_past, OutOfRange)
+    (row.is_out_of_range, OutOfRange)
     ∷ (is_some (row_for row.site above), Repeated)
     ∷ (has_bad_site sites row, BadSite)
     ∷ (is_listed row.neighbours row.site, SelfNeighbour)

@@ -17,7 +17,7 @@ pub record SiteRow : Type 0 where
   pub type_word : List ℕ
   pub neighbours : List ℕ
   -- a coordinate has a power of ten outside -400 to 400
-  pub is_past : Bool
+  pub is_out_of_range : Bool
 
 -- whole numbers, where each word writes one
 abbrev pub all_whole : List (List ℕ) → Option (List ℕ)
@@ -29,14 +29,14 @@ abbrev pub neighbours_of : ℕ → List (List ℕ) → Option (List ℕ)
 neighbours_of count words = if length words == count then all_whole words else None
 
 -- whether the power of ten of a coordinate is out of range, where its word has the form of a decimal
-abbrev pub is_past : Result Scientific DecimalFault → Option Bool
-is_past (Ok n) = Some false
-is_past (Err Form) = None
-is_past (Err Power) = Some true
+abbrev pub is_out_of_range : Result Scientific DecimalFault → Option Bool
+is_out_of_range (Ok n) = Some false
+is_out_of_range (Err Form) = None
+is_out_of_range (Err Power) = Some true
 
--- whether that of either coordinate is, where both words have the form of a decimal
-abbrev pub is_one_past : List ℕ → List ℕ → Option Bool
-is_one_past x y = option_and_then (λ a. option_map (λ b. a || b) (is_past (decimal_of y))) (is_past (decimal_of x))
+-- whether the power of ten of one of two coordinates is out of range, where both words have the form of a decimal
+abbrev pub is_either_out_of_range : List ℕ → List ℕ → Option Bool
+is_either_out_of_range x y = option_and_then (λ a. option_map (λ b. a || b) (is_out_of_range (decimal_of y))) (is_out_of_range (decimal_of x))
 
 -- the row of a site that words write
 abbrev pub site_row : List (List ℕ) → Option SiteRow
@@ -47,10 +47,10 @@ site_row (a ∷ x ∷ y ∷ []) = None
 site_row (a ∷ x ∷ y ∷ t ∷ []) = None
 site_row (a ∷ x ∷ y ∷ t ∷ n ∷ words) =
     option_and_then (λ site.
-    option_and_then (λ is_past.
+    option_and_then (λ is_out_of_range.
     option_and_then (λ count.
-    option_map (λ neighbours. record { site = site; type_word = t; neighbours = neighbours; is_past = is_past }) (neighbours_of count words))
-    (result_ok (whole_number n))) (is_one_past x y)) (result_ok (whole_number a))
+    option_map (λ neighbours. record { site = site; type_word = t; neighbours = neighbours; is_out_of_range = is_out_of_range }) (neighbours_of count words))
+    (result_ok (whole_number n))) (is_either_out_of_range x y)) (result_ok (whole_number a))
 
 -- the rows of the right form, in order
 abbrev pub rows_of : List WordLine → List SiteRow

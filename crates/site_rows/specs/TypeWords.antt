@@ -5,7 +5,7 @@ use Rattle.std.specs.List.{position_from}
 use Rattle.dec_text.specs.Wholes.{whole_number}
 use Rattle.dec_text.specs.declared.faults.NotWhole.{NotWhole}
 
--- the number of the type with a name, from 1; 0 where no type has it
+-- the number of the first type whose name is this word, byte by byte, from 1; 0 where there is none
 abbrev pub type_named : List (List ℕ) → List ℕ → ℕ
 type_named names word = unwrap_or (position_from (λ name. pointwise (λ x y. x == y) name word) 1 names) 0
 

@@ -11,7 +11,7 @@ ghost use Rattle.site_rows.specs.RowFaults.{each_once, first_fault, first_that_h
 ghost use Rattle.site_rows.specs.SiteRows.{SiteRow, row_for, rows_of};
 ghost use Rattle.site_rows.specs.declared.faults.RowFault.TheVariants.{OneSided, SelfNeighbour, TooManyNeighbours};
 
-use crate::index::{RowNeighbours, has_bad_site, index_rows, sort_once};
+use crate::index::{RowNeighbours, has_bad_site, index_rows, sort_and_dedup};
 use crate::row::{ReadRow, site_row};
 use dec_text::Line;
 use kmc_base::OutOfMemory;
@@ -19,22 +19,25 @@ use lattice_core::MAX_NEIGHBOURS;
 use std::alloc::Global;
 use std::collections::{BTreeMap, BTreeSet};
 
-/// What is wrong with a row. Of what is wrong with one row the first in this order is its fault.
+/// What is wrong with a row of `lattice_structure`. Of what is wrong with one row the first in this order is its fault.
+/// Which faults a row may have, and their order, are kmc's own.
 #[derive(Clone, Copy, Debug, PartialEq, Eq)]
 pub enum RowFault {
-    /// It is no row of a site: words are missing, or more or fewer than the neighbours that it counts, or no numbers.
+    /// It is no row of a site: it has fewer than five words; or its site, its number of neighbours or a neighbour is no
+    /// whole number below 2^64; or a coordinate has not the form of a decimal; or it has more or fewer neighbours than it
+    /// says.
     Form,
-    /// A coordinate has a power of ten outside -400 to 400.
+    /// The power of ten of a coordinate is outside -400 to 400, and the coordinate is not 0.
     OutOfRange,
-    /// A row above has the same site.
+    /// A row above, of the right form, has the same site.
     Repeated,
-    /// It names what is no site.
+    /// Its site or one of its neighbours is not from 1 to the number of sites, where that number is known.
     BadSite,
     /// It names its own site as a neighbour.
     SelfNeighbour,
-    /// It names more different neighbours than a site may have.
+    /// It names more than 32 different neighbours.
     TooManyNeighbours,
-    /// The row of one of its neighbours does not name its site.
+    /// A neighbour has a row of the right form, and the first such row names only sites, but not this row's site.
     OneSided,
 }
 
@@ -49,7 +52,7 @@ fn has_number(numbers: &[u64], n: u64) -> bool
 fn count_different(mut numbers: Vec<u64>) -> usize
     ensures { result ≡ length (each_once numbers.items) }
 {
-    sort_once(&mut numbers);
+    sort_and_dedup(&mut numbers);
     numbers.len()
 }
 
@@ -114,7 +117,7 @@ fn row_fault(
         → is_repeated ≡ is_some (row_for row.site above)
         → result ≡ first_that_holds (row_faults sites above all (row_at text row)) }
 {
-    if row.is_past {
+    if row.is_out_of_range {
         Some(RowFault::OutOfRange)
     } else if is_repeated {
         Some(RowFault::Repeated)

@@ -26,7 +26,7 @@ pub(crate) struct RowNeighbours {
 }
 
 /// Puts numbers into rising order, each once.
-pub(crate) fn sort_once(numbers: &mut Vec<u64>)
+pub(crate) fn sort_and_dedup(numbers: &mut Vec<u64>)
     ensures rising { IsStrictlyIncreasing numbers.new.items }
     ensures same { (n : ℕ) → is_listed numbers.new.items n ≡ is_listed numbers.old.items n }
 {
@@ -54,7 +54,7 @@ fn kept_of(sites: Option<u64>, row: ReadRow) -> RowNeighbours
 {
     let has_bad_site = has_bad_site(sites, row.site, row.neighbours.as_slice());
     let mut neighbours = row.neighbours;
-    sort_once(&mut neighbours);
+    sort_and_dedup(&mut neighbours);
     RowNeighbours {
         has_bad_site,
         neighbours,

@@ -8,6 +8,7 @@ ghost use Rattle.site_rows.specs.ReadRows.{row_at};
 ghost use Rattle.site_rows.specs.RowFaults.{first_fault};
 ghost use Rattle.site_rows.specs.SiteRows.{rows_of};
 ghost use Rattle.site_rows.specs.TypeWords.{type_of};
+ghost use Rattle.site_rows.specs.declared.type_word.TheConstants.{MAX_SITE_TYPES};
 
 use crate::row::{ReadRow, site_row};
 use crate::type_word::type_of;
@@ -48,7 +49,7 @@ fn place_row(
     lists: &mut [Vec<SiteId>],
     row: &ReadRow,
 ) -> Result<(), OutOfMemory>
-    requires names { length names.now ≤ 1000 }
+    requires names { length names.now ≤ MAX_SITE_TYPES }
     requires same_length { length lists.old ≡ length types.old }
     requires within_limit { length types.old ≤ MAX_SITES }
     requires sites { NamesSites (length types.old) (row_at bytes.now row.now) }
@@ -70,7 +71,7 @@ fn place_line(
     lists: &mut [Vec<SiteId>],
     line: &Line,
 ) -> Result<(), OutOfMemory>
-    requires names { length names.now ≤ 1000 }
+    requires names { length names.now ≤ MAX_SITE_TYPES }
     requires same_length { length lists.old ≡ length types.old }
     requires within_limit { length types.old ≤ MAX_SITES }
     requires sites { LineNamesSites (length types.old) (line_at bytes.now line.now) }
@@ -96,7 +97,7 @@ fn place_rows(
     lists: &mut [Vec<SiteId>],
     rows: &[Line],
 ) -> Result<(), OutOfMemory>
-    requires names { length names.now ≤ 1000 }
+    requires names { length names.now ≤ MAX_SITE_TYPES }
     requires same_length { length lists.old ≡ length types.old }
     requires within_limit { length types.old ≤ MAX_SITES }
     requires faultless { IsFaultless (length types.old) (map (line_at bytes.now) rows.now) }
@@ -111,8 +112,9 @@ fn place_rows(
     Ok(())
 }
 
-/// The lattice of rows that have no fault, one for each of `sites` sites; `names` are the names of the site types in
-/// order. A site whose type word is no type has type 0.
+/// The lattice of rows that have no fault, one for each of `sites` sites, of which there are 1 to 65,536. The rows number
+/// them from 1 and stand in any order; the graph numbers them from 0. `names` are the names of the site types in order,
+/// at most 1,000; types are numbered from 1, and a site whose type word is no type has type 0.
 pub fn graph_of(
     alloc: Global,
     bytes: &[u8],
@@ -123,7 +125,7 @@ pub fn graph_of(
     requires has_a_site { 1 ≤ sites }
     requires within_limit { sites ≤ MAX_SITES }
     requires one_row_each { length rows.now ≡ sites }
-    requires names { length names.now ≤ 1000 }
+    requires names { length names.now ≤ MAX_SITE_TYPES }
     requires faultless { first_fault (Some sites) (map (line_at bytes.now) rows.now) ≡ None }
     ensures { IfOk result (λ g. g ≡ listed_lattice sites (map (λ name. name.items) names.now) (rows_of (map (line_at bytes.now) rows.now))) }
 {

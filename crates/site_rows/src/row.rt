@@ -4,7 +4,7 @@ ghost use Rattle.dec_text.specs.Decimals.{decimal_of};
 ghost use Rattle.dec_text.specs.Spans.{bytes_at, line_at};
 ghost use Rattle.site_rows.specs.Words.{row_words};
 ghost use Rattle.site_rows.specs.ReadRows.{row_at};
-ghost use Rattle.site_rows.specs.SiteRows.{all_whole, is_one_past, is_past, neighbours_of, site_row};
+ghost use Rattle.site_rows.specs.SiteRows.{all_whole, is_either_out_of_range, is_out_of_range, neighbours_of, site_row};
 
 use dec_text::{DecimalFault, Line, Span, read_decimal, read_whole};
 use kmc_base::OutOfMemory;
@@ -20,7 +20,7 @@ pub(crate) struct ReadRow {
     /// The numbers of the neighbours, from 1, in the order of the row.
     pub(crate) neighbours: Vec<u64>,
     /// A coordinate has a power of ten outside -400 to 400.
-    pub(crate) is_past: bool,
+    pub(crate) is_out_of_range: bool,
 }
 
 /// Whole numbers, where each word writes one.
@@ -54,8 +54,8 @@ fn neighbours_of(
 }
 
 /// Whether the power of ten of a coordinate is out of range, where its word has the form of a decimal.
-fn is_past(word: &[u8]) -> Option<bool>
-    ensures { result ≡ is_past (decimal_of word.now) }
+fn is_out_of_range(word: &[u8]) -> Option<bool>
+    ensures { result ≡ is_out_of_range (decimal_of word.now) }
 {
     match read_decimal(word) {
         Ok(_) => Some(false),
@@ -64,12 +64,12 @@ fn is_past(word: &[u8]) -> Option<bool>
     }
 }
 
-/// Whether that of either coordinate is, where both words have the form of a decimal.
-fn is_one_past(x: &[u8], y: &[u8]) -> Option<bool>
-    ensures { result ≡ is_one_past x.now y.now }
+/// Whether the power of ten of one of two coordinates is out of range, where both words have the form of a decimal.
+fn is_either_out_of_range(x: &[u8], y: &[u8]) -> Option<bool>
+    ensures { result ≡ is_either_out_of_range x.now y.now }
 {
-    let x = is_past(x)?;
-    let y = is_past(y)?;
+    let x = is_out_of_range(x)?;
+    let y = is_out_of_range(y)?;
     Some(x || y)
 }
 
@@ -81,9 +81,9 @@ fn row_of(alloc: Global, bytes: &[u8], words: &[Span]) -> Result<Option<ReadRow>
         return Ok(None);
     };
     let site = read_whole(site.bytes(bytes));
-    let is_past = is_one_past(x.bytes(bytes), y.bytes(bytes));
+    let is_out_of_range = is_either_out_of_range(x.bytes(bytes), y.bytes(bytes));
     let count = read_whole(count.bytes(bytes));
-    let (Ok(site), Some(is_past), Ok(count)) = (site, is_past, count) else {
+    let (Ok(site), Some(is_out_of_range), Ok(count)) = (site, is_out_of_range, count) else {
         return Ok(None);
     };
     match neighbours_of(alloc, bytes, count, others)? {
@@ -91,7 +91,7 @@ fn row_of(alloc: Global, bytes: &[u8], words: &[Span]) -> Result<Option<ReadRow>
             site,
             type_word: *type_word,
             neighbours,
-            is_past,
+            is_out_of_range,
         })),
         None => Ok(None),
     }

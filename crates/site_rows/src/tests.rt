@@ -58,6 +58,18 @@ fn faults_of_rows(rt: HostRuntime) -> Result<(), Fail> {
             b"1 0.0 0.0 t 0\n2 0.0 0.0 t 1 1\n",
             Some((2, RowFault::OneSided)),
         ),
+        // Of two rows for a neighbour the first counts.
+        (
+            b"1 0.0 0.0 t 1 2\n2 0.0 0.0 t 0\n2 0.0 0.0 t 1 1\n",
+            Some((1, RowFault::OneSided)),
+        ),
+        // A neighbour is not one-sided where its row names what is no site, has another form, or is not there.
+        (
+            b"1 0.0 0.0 t 1 2\n2 0.0 0.0 t 1 3\n",
+            Some((2, RowFault::BadSite)),
+        ),
+        (b"1 0.0 0.0 t 1 2\n2 0.0 x t 0\n", Some((2, RowFault::Form))),
+        (b"1 0.0 0.0 t 1 2\n", None),
     ] {
         let rows = split(alloc, text)?;
         assert_eq!(rt; first_fault(alloc, text, Some(2), &rows)?, fault);

@@ -6,6 +6,9 @@ ghost use Rattle.site_rows.specs.TypeWords.{type_named, type_numbered, type_of};
 
 use dec_text::read_whole;
 
+/// The greatest number of site types, a limit of kmc's own.
+pub const MAX_SITE_TYPES: usize = 1000;
+
 /// The place of a name in a list.
 fn place_of(names: &[Vec<u8>], word: &[u8]) -> Option<usize>
     ensures { result ≡ position (λ name. pointwise (λ x y. x == y) name.items word.now) names.now }

@@ -2,7 +2,7 @@ use Rattle.std.proofs.Common.{◌≡◌, eqb}
 use Rattle.std.specs.List.{dedup}
 use Rattle.std.proofs.lemmas.List.Filters.{dedup_is}
 use Rattle.site_rows.proofs.NumberLists.{listed_from_sort, rising_from_sort}
-use Rattle.site_rows.proofs.index.sort_once.Goals as goal
+use Rattle.site_rows.proofs.index.sort_and_dedup.Goals as goal
 
 pub returns : goal.returns
 returns c =
