@@ -9,6 +9,7 @@ pub mod NameLists
 mod Powers
 mod ReadBlocks
 mod Repeats
+pub mod RisingKinds
 mod Rows
 mod ShapeFacts
 mod Words

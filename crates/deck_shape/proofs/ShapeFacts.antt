@@ -4,6 +4,7 @@ use Rattle.std.specs.List.{AllByRecursion, list_any}
 use Rattle.std.specs.Option.{option_map_or}
 use Rattle.std.proofs.lemmas.Bool.{false≢true, not-false}
 use Rattle.dec_text.specs.Lines.{WordLine, word_lines}
+use Rattle.deck_shape.proofs.RisingKinds.{kinds_in_order}
 use Rattle.deck_shape.specs.Blocks.{BlockLines, ItemLines, with_row}
 use Rattle.deck_shape.specs.LineFaults.{block_of_text, closes, fault_at, first_kind, has_other_count, is_missing, is_repeated, is_stray_row, is_unknown, is_unsupported, line_count, misses_word, names_no_lattice, rule_faults}
 use Rattle.deck_shape.specs.LineWords.{arguments_of, head_of}
@@ -59,7 +60,7 @@ module _ (so_far : SoFar) (line : WordLine) (rule : Rule) (is : rule_at so_far l
   no_rule_fault : first_kind (rule_faults so_far line rule) ≡ None
   no_rule_fault =
       let rest = option_map_or (rule_faults so_far line) (rule_at so_far line) [] in
-      let first = not_first (is_stray_row so_far line) STRAY_ROW ((is_unknown so_far line, UNKNOWN_WORD) ∷ rest) none in
+      let first = not_first (is_stray_row so_far line) STRAY_ROW ((is_unknown so_far line, UNKNOWN_WORD) ∷ rest) (kinds_in_order so_far line ∙ none) in
       let second = not_first (is_unknown so_far line) UNKNOWN_WORD rest first.1 in
       sym (ap (λ r. first_kind (option_map_or (rule_faults so_far line) r [])) is) ∙ second.1
 

@@ -2,6 +2,7 @@
 use Rattle.std.specs.Prelude.{ℕ, List, [], map, Option, unwrap_or}
 use Rattle.std.specs.List.{find}
 use Rattle.std.specs.Option.{option_map, option_map_or}
+use Rattle.dec_text.specs.Lines.{Run}
 use Rattle.deck_shape.specs.Blocks.{ItemLines, has_keyword}
 use Rattle.deck_shape.specs.LineWords.{arguments_of}
 use Rattle.deck_shape.specs.Names.{NameWord, on_line}
@@ -15,9 +16,17 @@ words_of item = map (λ word. word.bytes) (arguments_of item.line)
 abbrev pub words_behind : Keyword → List ItemLines → Option (List (List ℕ))
 words_behind keyword items = option_map words_of (find (has_keyword keyword) items)
 
+-- the words behind a keyword with their places in the text, where the keyword stands
+abbrev pub runs_behind : Keyword → List ItemLines → Option (List Run)
+runs_behind keyword items = option_map (λ item. arguments_of item.line) (find (has_keyword keyword) items)
+
 -- the words of a list, none where it is absent
 abbrev pub list_in : Keyword → List ItemLines → List (List ℕ)
 list_in keyword items = unwrap_or (words_behind keyword items) []
+
+-- the words of a list with their places, none where it is absent
+abbrev pub runs_in : Keyword → List ItemLines → List Run
+runs_in keyword items = unwrap_or (runs_behind keyword items) []
 
 -- the names on a line
 abbrev pub names_on : ItemLines → List NameWord

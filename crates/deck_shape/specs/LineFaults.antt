@@ -6,6 +6,8 @@ use Rattle.dec_text.specs.Bytes.{is_line_feed}
 use Rattle.dec_text.specs.Lines.{WordLine, runs, word_lines}
 use Rattle.deck_shape.specs.Blocks.{BlockLines, ItemLines, has_word_of}
 use Rattle.deck_shape.specs.LineWords.{arguments_of, is_row}
+use Rattle.deck_shape.specs.Lists.{fault_if}
+use Rattle.deck_shape.specs.Numbers.{lesser}
 use Rattle.deck_shape.specs.Reading.{SoFar, argument_of, block_of, lattice_block, read_after, nothing_read, rule_at}
 use Rattle.deck_shape.specs.Tables.{allows, rules_of}
 use Rattle.deck_shape.specs.declared.kind.TheConstants.{STRAY_ROW, UNKNOWN_WORD, UNSUPPORTED_WORD, ARGUMENT_COUNT, REPEATED_WORD, MISSING_WORD, NOT_CLOSED, UNKNOWN_LATTICE}
@@ -85,10 +87,15 @@ misses_word kind items rule = closes rule.role && list_any (is_missing items) (r
 abbrev pub names_no_lattice : WordLine → Rule → Bool
 names_no_lattice line rule = begins_lattice rule.role && is_none (lattice_block (argument_of line))
 
--- the first kind of some whose fault holds
+-- of some kinds, each with whether it holds, the first that holds
 abbrev pub first_kind : List (Bool × ℕ) → Option ℕ
 first_kind [] = None
 first_kind (fault ∷ faults) = if fault.0 then Some fault.1 else first_kind faults
+
+-- of some kinds, each with whether it holds, the least that holds
+abbrev pub least_kind : List (Bool × ℕ) → Option ℕ
+least_kind [] = None
+least_kind (fault ∷ faults) = lesser (fault_if fault.0 fault.1) (least_kind faults)
 
 -- the kinds that may hold at a word that the block has, rising
 abbrev pub rule_faults : SoFar → WordLine → Rule → List (Bool × ℕ)
@@ -109,7 +116,7 @@ line_faults so_far line =
 
 -- the fault of a line: the least kind that holds
 abbrev pub fault_at : SoFar → WordLine → Option ℕ
-fault_at so_far line = first_kind (line_faults so_far line)
+fault_at so_far line = least_kind (line_faults so_far line)
 
 -- the next line does not stand in an enclosed block of rows
 abbrev pub is_outermost : Below → Bool

@@ -9,7 +9,7 @@ use Rattle.deck_shape.specs.declared.table.BlockKind.{BlockKind}
 use Rattle.deck_shape.specs.declared.table.BlockKind.TheVariants.{Simulation, LatticeFile, DefaultChoice, PeriodicCell, Explicit, NeighboringStructure as NeighboringRows, LatticeStructure as LatticeRows}
 use Rattle.deck_shape.specs.declared.table.Rule.{Rule}
 
--- the block of a lattice file
+-- a block that is a lattice, in one of its three forms
 abbrev pub IsLatticeKind : BlockKind → Type 0
 IsLatticeKind DefaultChoice = Unit {0}
 IsLatticeKind PeriodicCell = Unit {0}

@@ -201,7 +201,7 @@ fn row_fault(below: Below) -> Option<u8>
     }
 }
 
-/// The least kind of fault that holds at a line, which has this rule, if its block has its word.
+/// The least kind of fault that holds at a line.
 pub(crate) fn fault_at(reading: &Reading, bytes: &[u8], line: &Line) -> Option<u8>
     ensures { result ≡ fault_at (reading_at bytes.now reading.now) (line_at bytes.now line.now) }
 {

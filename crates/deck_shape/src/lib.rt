@@ -3,7 +3,7 @@
 //! `read_shape` gives exactly the block of a file, or exactly its first fault of form. The words of the blocks are
 //! tables of data, which the definitions read too. Beside them stands what the readers of all files share: the words and
 //! names behind a keyword, the form of a word by a table, what is wrong with the word of a number, or with a list, and
-//! what a word stands for. A name is known by its place in the bytes of its file. It stands on dec_text.
+//! what a word stands for. A name is known by its place in the bytes of its file. It stands on dec_text and kmc_base.
 #![tactic(auto)]
 
 mod check;
@@ -23,6 +23,7 @@ mod table;
 pub use fault::{DeckFault, Fault};
 pub use form::{WordForm, form_of};
 pub use keyword::Keyword;
+pub use line_words::NO_WORD;
 pub use list::{fault_if, has_other_length, names_repeat};
 pub use name::Name;
 pub use number::{

@@ -5,7 +5,7 @@ ghost use Rattle.deck_shape.specs.LineWords.{arguments_of, begins_row, first_of}
 use dec_text::{Line, Span};
 
 /// An empty place, for a word that is not there.
-pub(crate) const NO_WORD: Span = Span { start: 0, end: 0 };
+pub const NO_WORD: Span = Span { start: 0, end: 0 };
 
 /// The place of the word at the head of a line.
 pub(crate) fn head(line: &Line) -> Span

@@ -3,7 +3,7 @@ ghost use Rattle.std.specs.List.{find};
 ghost use Rattle.std.specs.Option.{option_map};
 ghost use Rattle.dec_text.specs.Spans.{bytes_at, line_at, run_at};
 ghost use Rattle.deck_shape.specs.Blocks.{block_at, has_keyword, item_at};
-ghost use Rattle.deck_shape.specs.Items.{list_in, names_in, names_on, words_behind, words_of};
+ghost use Rattle.deck_shape.specs.Items.{list_in, names_in, names_on, runs_behind, runs_in, words_behind, words_of};
 ghost use Rattle.deck_shape.specs.LineWords.{arguments_of, head_of};
 ghost use Rattle.deck_shape.specs.Names.{name_at};
 
@@ -76,7 +76,8 @@ impl Block {
 
     /// The words behind a keyword, as places in the bytes of its file; `None` where the keyword does not stand.
     pub fn words_behind(&self, bytes: &[u8], keyword: Keyword) -> Option<&[Span]>
-        ensures { option_map (λ words. map (bytes_at bytes.now) words.now) result ≡ words_behind keyword (block_at bytes.now self.now).items }
+        ensures runs { option_map (λ words. map (run_at bytes.now) words.now) result ≡ runs_behind keyword (block_at bytes.now self.now).items }
+        ensures words { option_map (λ words. map (bytes_at bytes.now) words.now) result ≡ words_behind keyword (block_at bytes.now self.now).items }
     {
         match self.item(bytes, keyword) {
             Some(item) => Some(item.arguments()),
@@ -87,7 +88,8 @@ impl Block {
     /// The members of the list behind a keyword, as places in the bytes of its file; none where the keyword does not
     /// stand.
     pub fn list_in(&self, bytes: &[u8], keyword: Keyword) -> &[Span]
-        ensures { map (bytes_at bytes.now) result.now ≡ list_in keyword (block_at bytes.now self.now).items }
+        ensures runs { map (run_at bytes.now) result.now ≡ runs_in keyword (block_at bytes.now self.now).items }
+        ensures words { map (bytes_at bytes.now) result.now ≡ list_in keyword (block_at bytes.now self.now).items }
     {
         self.words_behind(bytes, keyword).unwrap_or(&[])
     }

@@ -20,9 +20,9 @@ use Rattle.lattice_deck.specs.Faults.{row_lines}
 use Rattle.lattice_deck.specs.Joins.{crowds_at, crowds_by, has_bad_end, join_kind, join_of, join_on, join_row_kind, joins_itself, joins_of, kind_or, leads_back, sound_join}
 use Rattle.lattice_deck.specs.declared.joins.JoinRow.{JoinRow}
 use Rattle.lattice_deck.specs.declared.sizes.Sizes.{Sizes}
+use Rattle.lattice_deck.proofs.CellSizes.{cell_sizes}
 use Rattle.lattice_deck.proofs.Displacements.{is_back, leads}
 use Rattle.lattice_deck.proofs.JoinedSites.{LeadsAway, none_itself}
-use Rattle.lattice_deck.proofs.SizesSound.{few_of}
 use Rattle.lattice_deck.proofs.SoundNeighbours.{no_fault}
 
 pub both_none : (a b : Option (ℕ × ℕ)) → fault_or a b ≡ None → (a ≡ None) × (b ≡ None)
@@ -109,12 +109,12 @@ module _ (sites nx ny : ℕ) (columns : 1 ≤ nx) (rows : 1 ≤ ny) where
 pub cell_sound : (sizes : Sizes) (names types : List (List ℕ)) (rows : List WordLine) → IsCell sizes names types rows → (sites nx ny : ℕ) → sizes.sites ≡ Some sites → sizes.repeats ≡ Some (nx, ny)
     → (joins : List Join) × (joins_of sites rows ≡ Some joins) × (first_fault (neighbour_lists nx ny sites joins) ≡ None)
 cell_sound sizes names types rows is sites nx ny known repeated =
-    let bounds = few_of sizes is.sound sites nx ny known repeated in
-    let found = joins_known sites nx ny bounds.0 bounds.1 sizes known repeated rows is.sound_rows in
+    let bounds = cell_sizes sizes names types rows is sites nx ny known repeated in
+    let found = joins_known sites nx ny bounds.columns bounds.rows sizes known repeated rows is.sound_rows in
     let few = ap (crowds_by sites (nx, ny)) (sym found.1) ∙ ap (λ r. crowds_at (Some sites) r rows) (sym repeated) ∙ ap (λ s. crowds_at s sizes.repeats rows) (sym known) ∙ is.few_neighbours in
-    (found.0, found.1, no_fault nx ny sites found.0 (none_itself nx ny sites bounds.0 bounds.1 found.0 found.2) few)
+    (found.0, found.1, no_fault nx ny sites found.0 (none_itself nx ny sites bounds.columns bounds.rows found.0 found.2) few)
 
 -- a list has the length that is stated
-pub same_count : (count : Option ℕ) (sites members : ℕ) → count ≡ Some sites → has_other_length count members ≡ false → members ≡ sites
-same_count None sites members known same = cc
-same_count (Some n) sites members known same = let e : n ≡ sites = cc in eqb-true members n (not-false (members == n) same) ∙ e
+pub same_count : (count : Option ℕ) (n members : ℕ) → count ≡ Some n → has_other_length count members ≡ false → members ≡ n
+same_count None n members known same = cc
+same_count (Some m) n members known same = let e : m ≡ n = cc in eqb-true members m (not-false (members == m) same) ∙ e

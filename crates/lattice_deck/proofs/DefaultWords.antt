@@ -49,7 +49,7 @@ default_known (a ∷ x ∷ []) is = let h = is.three in absurd (omega arith)
 default_known (a ∷ x ∷ y ∷ z ∷ words) is = let h = is.three in absurd (omega arith)
 default_known (a ∷ x ∷ y ∷ []) is =
     let repeats = x ∷ y ∷ [] in
-    let outer = neither (number_kind Unused a) (lesser (repeats_kind (Some 1) repeats) (fault_if (is_narrow (repeats_of repeats)) SELF_NEIGHBOUR)) is.none in
+    let outer = neither (number_kind Unused a) (lesser (repeats_kind (Some 1) repeats) (fault_if (is_narrow (repeats_of repeats)) SELF_NEIGHBOUR)) is.no_fault in
     let inner = neither (repeats_kind (Some 1) repeats) (fault_if (is_narrow (repeats_of repeats)) SELF_NEIGHBOUR) outer.1 in
     let kinds = neither (numbers_kind REPEAT repeats) (fault_if (gives_too_many (Some 1) (repeats_of repeats)) TOO_MANY_SITES) inner.0 in
     let known = repeats_known x y kinds.0 in

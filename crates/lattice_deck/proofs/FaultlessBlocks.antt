@@ -1,5 +1,5 @@
 -- A whole block without a faulty value has all that its values go by.
-use Rattle.std.proofs.Common.{◌≡◌, ℕ, ◌≤◌, ◌||◌, Bool, true, false, not, cond, List, [], ◌∷◌, length, Option, None, Some, IfSome, is_some, is_none, unwrap_or, if◌then◌else◌, inl, inr, ap, sym, subst, ◌∙◌, arith, refl}
+use Rattle.std.proofs.Common.{◌≡◌, ℕ, ◌*◌, ◌≤◌, ◌||◌, Bool, true, false, not, cond, List, [], ◌∷◌, length, Option, None, Some, IfSome, IsSomeAnd, is_none, unwrap_or, if◌then◌else◌, inl, inr, ap, sym, subst, ◌∙◌, arith, refl}
 use Rattle.std.specs.Prelude.{option_and_then}
 use Rattle.std.specs.Cmp.Lexicographic.{same_text}
 use Rattle.std.specs.List.{AllByRecursion, find, list_any}
@@ -27,12 +27,12 @@ use Rattle.deck_shape.specs.declared.table.BlockKind.TheVariants.{Simulation, La
 use Rattle.deck_shape.specs.declared.table.Rule.{Rule}
 use Rattle.kmc_base.specs.declared.ids.TheConstants.{MAX_SITES}
 use Rattle.lattice_cell.specs.declared.expand.DefaultLattice.TheVariants.{Hexagonal, Rectangular}
-use Rattle.lattice_deck.specs.Faultless.{AreFaultless, HasDefault, IsDefault, IsDefaultOf}
+use Rattle.lattice_deck.specs.Faultless.{AreTypeNames, AreFaultless, HasDefault, IsDefault, IsDefaultOf}
 use Rattle.lattice_deck.specs.Faults.{fault_among, first_fault, form_fault, item_fault, rows_fault, word_kind}
 use Rattle.lattice_deck.specs.Joins.{crowds}
 use Rattle.lattice_deck.specs.Parts.{rows_in}
 use Rattle.lattice_deck.specs.RowKinds.{kind_of}
-use Rattle.lattice_deck.specs.Sizes.{gives_too_many, or_else, repeats_kind, repeats_of, sites_in, sizes_in, sound_repeats, stated, whole_of}
+use Rattle.lattice_deck.specs.Sizes.{AreRepeats, gives_too_many, or_else, repeats_kind, repeats_of, sites_in, sizes_in, sound_repeats, stated, whole_of}
 use Rattle.lattice_deck.specs.declared.forms.Form.{Form}
 use Rattle.lattice_deck.specs.declared.forms.Form.TheVariants.{Number, Repeats, TypeNames, Types, Joins, SiteRows, Default}
 use Rattle.lattice_deck.specs.declared.forms.TheConstants.{FORMS, REPEAT, SITE_COUNT, TYPE_COUNT}
@@ -42,6 +42,7 @@ use Rattle.site_rows.specs.declared.faults.RowFault.{RowFault}
 use Rattle.lattice_deck.proofs.CellJoins.{both_none, line_none, same_count}
 use Rattle.deck_shape.proofs.Maps.{IfSome-find}
 use Rattle.lattice_deck.proofs.SizesSound.{neither, not_held, repeats_known, sizes_sound, whole_known}
+use Rattle.site_rows.specs.declared.type_word.TheConstants.{MAX_SITE_TYPES}
 
 -- a word line that stands is found, and passes what it was sought by
 find_standing : (p : ItemLines → Bool) (items : List ItemLines) → list_any p items ≡ true → (item : ItemLines) × (find p items ≡ Some item) × (p item ≡ true)
@@ -133,22 +134,19 @@ stated_by most words one none =
     (number.0, ap (whole_of most) same ∙ number.1)
 
 -- repeats that are stated without a fault are known
-repeated_by : (sites : Option ℕ) (words : List (List ℕ)) → length words ≡ 2 → repeats_kind sites words ≡ None → is_some (sound_repeats sites words) ≡ true
+repeated_by : (sites : Option ℕ) (words : List (List ℕ)) → length words ≡ 2 → repeats_kind sites words ≡ None → (r : ℕ × ℕ) × (sound_repeats sites words ≡ Some r)
 repeated_by sites words two none =
     let w = two_words words two in
     let same = w.2 in
     let parts = neither (numbers_kind REPEAT words) (fault_if (gives_too_many sites (repeats_of words)) TOO_MANY_SITES) none in
     let kind : numbers_kind REPEAT (w.0 ∷ w.1 ∷ []) ≡ None = sym (ap (numbers_kind REPEAT) same) ∙ parts.0 in
     let known = repeats_known w.0 w.1 kind in
-    ap (λ k. is_some (if is_none k then repeats_of words else None)) none ∙ ap (λ ws. is_some (repeats_of ws)) same ∙ ap is_some known.1
+    (known.0, ap (λ k. if is_none k then repeats_of words else None) none ∙ ap repeats_of same ∙ known.1)
 
-some_else : (a b : Option ℕ) → is_some b ≡ true → is_some (or_else a b) ≡ true
-some_else None b is = is
-some_else (Some n) b is = refl
-
-some_first : (a b : Option ℕ) → is_some a ≡ true → is_some (or_else a b) ≡ true
-some_first None b is = absurd (false≢true is)
-some_first (Some n) b is = refl
+-- the second number is known, so one of the two is
+one_of_two : (a b : Option ℕ) (n : ℕ) → b ≡ Some n → (m : ℕ) × (or_else a b ≡ Some m)
+one_of_two None b n is = (n, is)
+one_of_two (Some m) b n is = (m, refl)
 
 or_neither : (a b : Bool) → (a || b) ≡ false → (a ≡ false) × (b ≡ false)
 or_neither false b h = (refl, h)
@@ -164,16 +162,21 @@ standing keyword items is = or_false (stands keyword items) ∙ not-false _ is
 
 module _ (kind : BlockKind) (items : List ItemLines) where
   -- the number of types, and as many names
-  names_few : (t : IsFound kind items NSiteTypes) → IsFound kind items SiteTypeNames → length (words_of t.item) ≡ 1 → length (list_in SiteTypeNames items) ≤ 1000
-  names_few t n one =
-      let number = stated_by 1000 (words_of t.item) one ((formed kind items NSiteTypes t (Number TYPE_COUNT) refl).0) in
-      let types : (sizes_in items).types ≡ Some number.0 = ap (option_and_then (whole_of 1000)) (behind kind items NSiteTypes t) ∙ number.1 in
-      let range = (sizes_sound items).types in
-      let below : number.0 ≤ 1000 = (rw types at range).1 in
+  names_sound : (t : IsFound kind items NSiteTypes) → IsFound kind items SiteTypeNames → length (words_of t.item) ≡ 1 → AreTypeNames (sizes_in items).types (list_in SiteTypeNames items)
+  names_sound t n one =
+      let number = stated_by MAX_SITE_TYPES (words_of t.item) one ((formed kind items NSiteTypes t (Number TYPE_COUNT) refl).0) in
+      let types : (sizes_in items).types ≡ Some number.0 = ap (option_and_then (whole_of MAX_SITE_TYPES)) (behind kind items NSiteTypes t) ∙ number.1 in
+      let range : (1 ≤ number.0) × (number.0 ≤ MAX_SITE_TYPES) = rw types at ((sizes_sound items).types) in
       let kinds = neither (fault_if (has_other_length (sizes_in items).types (length (words_of n.item))) LIST_LENGTH) (fault_if (names_repeat (words_of n.item)) REPEATED_NAME) ((formed kind items SiteTypeNames n TypeNames refl).0) in
-      let count = same_count (sizes_in items).types number.0 (length (words_of n.item)) types (not_held (has_other_length (sizes_in items).types (length (words_of n.item))) LIST_LENGTH kinds.0) in
-      let list = ap length (list_behind kind items SiteTypeNames n) in
-      omega (arith, list, count, below)
+      let each = not_held (has_other_length (sizes_in items).types (length (words_of n.item))) LIST_LENGTH kinds.0 in
+      let list = list_behind kind items SiteTypeNames n in
+      let count : length (list_in SiteTypeNames items) ≡ number.0 = ap length list ∙ same_count (sizes_in items).types number.0 (length (words_of n.item)) types each in
+      record {
+        one_each = types ∙ ap Some (sym count);
+        some = subst (λ m. 1 ≤ m) (sym count) range.0;
+        few = subst (λ m. m ≤ MAX_SITE_TYPES) (sym count) range.1;
+        differ = ap names_repeat list ∙ not_held (names_repeat (words_of n.item)) REPEATED_NAME kinds.1;
+      }
 
 not_found : (p : ItemLines → Bool) (items : List ItemLines) → list_any p items ≡ false → find p items ≡ None
 not_found p [] is = refl
@@ -188,14 +191,25 @@ by_first items known none either true is =
     let f = found DefaultChoice items RectangularPeriodic known none is in
     let count = eqb-true (length (words_of f.item)) 3 (counted DefaultChoice items RectangularPeriodic f _ refl) in
     let kind = (formed DefaultChoice items RectangularPeriodic f (Default Rectangular) refl).0 in
-    subst (λ w. IsDefaultOf w (list_in HexagonalPeriodic items)) (sym (behind DefaultChoice items RectangularPeriodic f)) (record { three = count; none = kind })
+    subst (λ w. IsDefaultOf w (list_in HexagonalPeriodic items)) (sym (behind DefaultChoice items RectangularPeriodic f)) (record { three = count; no_fault = kind })
 by_first items known none either false is =
     let f = found DefaultChoice items HexagonalPeriodic known none (sym (ap (λ b. b || stands HexagonalPeriodic items) is) ∙ either) in
     let count = eqb-true (length (words_of f.item)) 3 (counted DefaultChoice items HexagonalPeriodic f _ refl) in
     let kind = (formed DefaultChoice items HexagonalPeriodic f (Default Hexagonal) refl).0 in
     let absent = not_found (has_keyword RectangularPeriodic) items is in
     let no_words : words_behind RectangularPeriodic items ≡ None = ap (option_map words_of) absent in
-    subst (λ w. IsDefaultOf w (list_in HexagonalPeriodic items)) (sym no_words) (subst IsDefault (sym (list_behind DefaultChoice items HexagonalPeriodic f)) (record { three = count; none = kind }))
+    subst (λ w. IsDefaultOf w (list_in HexagonalPeriodic items)) (sym no_words) (subst IsDefault (sym (list_behind DefaultChoice items HexagonalPeriodic f)) (record { three = count; no_fault = kind }))
+
+-- the number of sites is in range
+site_range : (items : List ItemLines) (n : ℕ) → (sizes_in items).sites ≡ Some n → (1 ≤ n) × (n ≤ MAX_SITES)
+site_range items n is = subst (λ s. IfSome s (λ m. (1 ≤ m) × (m ≤ MAX_SITES))) is (sizes_sound items).sites
+
+-- the repeats are, and give few sites
+repeats_within : (items : List ItemLines) (n : ℕ) (r : ℕ × ℕ) → (sizes_in items).sites ≡ Some n → (sizes_in items).repeats ≡ Some r
+    → IsSomeAnd (sizes_in items).repeats (λ p. AreRepeats p × (p.0 * p.1 * n ≤ MAX_SITES))
+repeats_within items n r sited repeated =
+    let range : AreRepeats r = subst (λ p. IfSome p AreRepeats) repeated (sizes_sound items).repeats in
+    subst (λ p. IsSomeAnd p (λ q. AreRepeats q × (q.0 * q.1 * n ≤ MAX_SITES))) (sym repeated) (range, (sizes_sound items).few n r.0 r.1 sited repeated)
 
 -- a periodic cell
 module _ (items : List ItemLines) (known : AllByRecursion (IsKnown PeriodicCell) items) (none : fault_among (sizes_in items) items ≡ None) where
@@ -210,14 +224,18 @@ module _ (items : List ItemLines) (known : AllByRecursion (IsKnown PeriodicCell)
       let j = found PeriodicCell items NeighboringStructure known none joined in
       let number = stated_by MAX_SITES (words_of s.item) (eqb-true (length (words_of s.item)) 1 (counted PeriodicCell items NCellSites s _ refl)) ((formed PeriodicCell items NCellSites s (Number SITE_COUNT) refl).0) in
       let one : stated NCellSites MAX_SITES items ≡ Some number.0 = ap (option_and_then (whole_of MAX_SITES)) (behind PeriodicCell items NCellSites s) ∙ number.1 in
-      let repeats = repeated_by (sites_in items) (words_of r.item) (eqb-true (length (words_of r.item)) 2 (counted PeriodicCell items RepeatCell r _ refl)) ((formed PeriodicCell items RepeatCell r Repeats refl).0) in
+      let sites : (sizes_in items).sites ≡ Some number.0 = ap (λ a. or_else a (stated NSites MAX_SITES items)) one in
+      let words = list_behind PeriodicCell items SiteTypes l in
+      let types : length (list_in SiteTypes items) ≡ number.0 =
+      ap length words ∙ same_count (sizes_in items).sites number.0 (length (words_of l.item)) sites (not_held (has_other_length (sizes_in items).sites (length (words_of l.item))) LIST_LENGTH ((formed PeriodicCell items SiteTypes l Types refl).0)) in
+      let stated_repeats = repeated_by (sites_in items) (words_of r.item) (eqb-true (length (words_of r.item)) 2 (counted PeriodicCell items RepeatCell r _ refl)) ((formed PeriodicCell items RepeatCell r Repeats refl).0) in
+      let repeats : (sizes_in items).repeats ≡ Some stated_repeats.0 = ap (option_and_then (sound_repeats (sites_in items))) (behind PeriodicCell items RepeatCell r) ∙ stated_repeats.1 in
       let joins = formed PeriodicCell items NeighboringStructure j Joins refl in
       record {
-        sound = sizes_sound items;
-        has_sites = some_first (stated NCellSites MAX_SITES items) (stated NSites MAX_SITES items) (ap is_some one);
-        has_repeats = ap (λ w. is_some (option_and_then (sound_repeats (sites_in items)) w)) (behind PeriodicCell items RepeatCell r) ∙ repeats;
-        few_names = names_few PeriodicCell items t n (eqb-true (length (words_of t.item)) 1 (counted PeriodicCell items NSiteTypes t _ refl));
-        one_type_each = ap (λ ws. has_other_length (sizes_in items).sites (length ws)) (list_behind PeriodicCell items SiteTypes l) ∙ not_held (has_other_length (sizes_in items).sites (length (words_of l.item))) LIST_LENGTH ((formed PeriodicCell items SiteTypes l Types refl).0);
+        one_type_each = sites ∙ ap Some (sym types);
+        some_sites = subst (λ n. 1 ≤ n) (sym types) (site_range items number.0 sites).0;
+        repeats = subst (λ n. IsSomeAnd (sizes_in items).repeats (λ r. AreRepeats r × (r.0 * r.1 * n ≤ MAX_SITES))) (sym types) (repeats_within items number.0 stated_repeats.0 sites repeats);
+        type_names = names_sound PeriodicCell items t n (eqb-true (length (words_of t.item)) 1 (counted PeriodicCell items NSiteTypes t _ refl));
         few_neighbours = ap (crowds (sizes_in items)) (rows_behind PeriodicCell items NeighboringStructure j) ∙ not_held (crowds (sizes_in items) j.item.rows) TOO_MANY_NEIGHBOURS joins.0;
         sound_rows = ap (rows_fault (sizes_in items) Joins) (rows_behind PeriodicCell items NeighboringStructure j) ∙ joins.1;
       }
@@ -237,13 +255,19 @@ module _ (items : List ItemLines) (known : AllByRecursion (IsKnown Explicit) ite
       let j = found Explicit items LatticeStructure known none rowed in
       let number = stated_by MAX_SITES (words_of s.item) (eqb-true (length (words_of s.item)) 1 (counted Explicit items NSites s _ refl)) ((formed Explicit items NSites s (Number SITE_COUNT) refl).0) in
       let one : stated NSites MAX_SITES items ≡ Some number.0 = ap (option_and_then (whole_of MAX_SITES)) (behind Explicit items NSites s) ∙ number.1 in
+      let known_sites = one_of_two (stated NCellSites MAX_SITES items) (stated NSites MAX_SITES items) number.0 one in
+      let sites : (sizes_in items).sites ≡ Some known_sites.0 = known_sites.1 in
+      let range = site_range items known_sites.0 sites in
       let rows = formed Explicit items LatticeStructure j SiteRows refl in
+      let lines = rows_behind Explicit items LatticeStructure j in
+      let count : length (rows_in LatticeStructure items) ≡ known_sites.0 =
+      ap length lines ∙ same_count (sizes_in items).sites known_sites.0 (length j.item.rows) sites (not_held (has_other_length (sizes_in items).sites (length j.item.rows)) ROW_COUNT rows.0) in
       record {
-        sound = sizes_sound items;
-        has_sites = some_else (stated NCellSites MAX_SITES items) (stated NSites MAX_SITES items) (ap is_some one);
-        few_names = names_few Explicit items t n (eqb-true (length (words_of t.item)) 1 (counted Explicit items NSiteTypes t _ refl));
-        one_row_each = ap (λ rs. has_other_length (sizes_in items).sites (length rs)) (rows_behind Explicit items LatticeStructure j) ∙ not_held (has_other_length (sizes_in items).sites (length j.item.rows)) ROW_COUNT rows.0;
-        sound_rows = ap (first_row_fault (sizes_in items).sites) (rows_behind Explicit items LatticeStructure j) ∙ no_row_fault (first_row_fault (sizes_in items).sites j.item.rows) rows.1;
+        one_row_each = sites ∙ ap Some (sym count);
+        some_sites = subst (λ n. 1 ≤ n) (sym count) range.0;
+        few_sites = subst (λ n. n ≤ MAX_SITES) (sym count) range.1;
+        type_names = names_sound Explicit items t n (eqb-true (length (words_of t.item)) 1 (counted Explicit items NSiteTypes t _ refl));
+        sound_rows = ap (first_row_fault (sizes_in items).sites) lines ∙ no_row_fault (first_row_fault (sizes_in items).sites j.item.rows) rows.1;
       }
 
 -- no word of a block is missing

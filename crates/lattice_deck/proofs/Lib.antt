@@ -1,4 +1,5 @@
 mod CellJoins
+mod CellSizes
 mod CellSteps
 mod DefaultSound
 mod DefaultWords
@@ -8,6 +9,7 @@ mod FaultlessBlocks
 mod FormTable
 mod JoinLists
 mod JoinedSites
+mod RowOrder
 mod Maps
 mod SizesSound
 mod SoundNeighbours

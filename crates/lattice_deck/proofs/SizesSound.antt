@@ -16,6 +16,7 @@ use Rattle.deck_shape.specs.declared.kind.TheConstants.{OUT_OF_RANGE, TOO_MANY_S
 use Rattle.lattice_deck.specs.Sizes.{AreRepeats, IsSizes, gives_too_many, or_else, repeats_kind, repeats_of, sites_in, sizes_in, sound_repeats, stated, whole_of}
 use Rattle.lattice_deck.specs.declared.forms.TheConstants.{REPEAT}
 use Rattle.lattice_deck.specs.declared.sizes.Sizes.{Sizes}
+use Rattle.site_rows.specs.declared.type_word.TheConstants.{MAX_SITE_TYPES}
 
 abbrev IsUpTo : ℕ → ℕ → Type 0
 IsUpTo most n = (1 ≤ n) × (n ≤ most)
@@ -121,7 +122,7 @@ few_behind (Some all) (Some words) sites nx ny known is = let e : all ≡ sites 
 pub sizes_sound : (items : List ItemLines) → IsSizes (sizes_in items)
 sizes_sound items = record {
   sites = either_range (stated NCellSites MAX_SITES items) (stated NSites MAX_SITES items) MAX_SITES (stated_range NCellSites MAX_SITES items) (stated_range NSites MAX_SITES items);
-  types = stated_range NSiteTypes 1000 items;
+  types = stated_range NSiteTypes MAX_SITE_TYPES items;
   repeats = behind_range (sites_in items) (words_behind RepeatCell items);
   few = few_behind (sites_in items) (words_behind RepeatCell items);
 }

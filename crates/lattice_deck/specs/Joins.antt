@@ -53,7 +53,7 @@ join_of (edge ∷ toward ∷ next ∷ words) = None
 abbrev pub has_bad_end : Option ℕ → JoinRow → Bool
 has_bad_end sites row = is_no_site sites row.from || is_no_site sites row.to
 
--- a displacement leads back to the same cell: none does so always, the others by the repeats, where these are known
+-- a displacement leads back to the same cell: `self` does so always, the others by the repeats, where these are known
 abbrev pub leads_back : Option (ℕ × ℕ) → Toward → Bool
 leads_back repeats Own = true
 leads_back None North = false

@@ -1,5 +1,5 @@
 -- The kinds of the faults of rows of sites, by their numbers in kmc's table of faults.
-use Rattle.std.specs.Prelude.{ℕ}
+use Rattle.std.specs.Prelude.{ℕ, Bool, List, map}
 use Rattle.deck_shape.specs.declared.kind.TheConstants.{BAD_SITE, ONE_SIDED, OUT_OF_RANGE, REPEATED_SITE, ROW_FORM, SELF_NEIGHBOUR, TOO_MANY_NEIGHBOURS}
 use Rattle.site_rows.specs.declared.faults.RowFault.{RowFault}
 use Rattle.site_rows.specs.declared.faults.RowFault.TheVariants.{BadSite, Form, OneSided, OutOfRange, Repeated, SelfNeighbour, TooManyNeighbours}
@@ -13,3 +13,7 @@ kind_of BadSite = BAD_SITE
 kind_of SelfNeighbour = SELF_NEIGHBOUR
 kind_of TooManyNeighbours = TOO_MANY_NEIGHBOURS
 kind_of OneSided = ONE_SIDED
+
+-- the same faults by their kinds, each with whether it holds
+abbrev pub with_kinds : List (Bool × RowFault) → List (Bool × ℕ)
+with_kinds faults = map (λ fault. (fault.0, kind_of fault.1)) faults

@@ -11,6 +11,7 @@ use Rattle.deck_shape.specs.declared.keyword.Keyword.TheVariants.{NCellSites, NS
 use Rattle.deck_shape.specs.declared.kind.TheConstants.{TOO_MANY_SITES}
 use Rattle.lattice_deck.specs.declared.forms.TheConstants.{REPEAT}
 use Rattle.lattice_deck.specs.declared.sizes.Sizes.{Sizes}
+use Rattle.site_rows.specs.declared.type_word.TheConstants.{MAX_SITE_TYPES}
 
 -- the whole number of some words, from 1 to most, where they have no fault
 abbrev pub whole_of : ℕ → List (List ℕ) → Option ℕ
@@ -56,7 +57,7 @@ sites_in items = or_else (stated NCellSites MAX_SITES items) (stated NSites MAX_
 abbrev pub sizes_in : List ItemLines → Sizes
 sizes_in items = record {
   sites = sites_in items;
-  types = stated NSiteTypes 1000 items;
+  types = stated NSiteTypes MAX_SITE_TYPES items;
   repeats = option_and_then (sound_repeats (sites_in items)) (words_behind RepeatCell items);
 }
 
@@ -67,6 +68,6 @@ AreRepeats repeats = (1 ≤ repeats.0) × (1 ≤ repeats.1)
 -- what is true of the numbers of every file: each is at least 1, and the repeats give at most 65,536 sites
 pub record IsSizes (sizes : Sizes) : Type 0 where
   pub sites : IfSome sizes.sites (λ n. (1 ≤ n) × (n ≤ MAX_SITES))
-  pub types : IfSome sizes.types (λ n. (1 ≤ n) × (n ≤ 1000))
+  pub types : IfSome sizes.types (λ n. (1 ≤ n) × (n ≤ MAX_SITE_TYPES))
   pub repeats : IfSome sizes.repeats AreRepeats
   pub few : (sites nx ny : ℕ) → sizes.sites ≡ Some sites → sizes.repeats ≡ Some (nx, ny) → nx * ny * sites ≤ MAX_SITES

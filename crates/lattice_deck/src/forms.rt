@@ -3,6 +3,7 @@
 use deck_shape::{Keyword, Number, WordForm};
 use kmc_base::MAX_SITES;
 use lattice_cell::DefaultLattice;
+use site_rows::MAX_SITE_TYPES;
 
 /// How many rows a word has.
 #[derive(Clone, Copy, Debug, PartialEq, Eq)]
@@ -38,7 +39,7 @@ pub enum Form {
 pub const SITE_COUNT: Number = Number::Whole(1, MAX_SITES as u64);
 
 /// A number of site types, from 1 to 1,000.
-pub const TYPE_COUNT: Number = Number::Whole(1, 1000);
+pub const TYPE_COUNT: Number = Number::Whole(1, MAX_SITE_TYPES as u64);
 
 /// How often a cell is repeated in one direction; the limit on sites bounds it further.
 pub const REPEAT: Number = Number::Whole(1, 18_446_744_073_709_551_615);

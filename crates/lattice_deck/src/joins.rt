@@ -110,7 +110,7 @@ fn leads_to_itself(nx: u64, ny: u64, toward: Toward) -> bool
     }
 }
 
-/// A displacement leads back to the same cell: none does so always, the others by the repeats, where these are known.
+/// A displacement leads back to the same cell: `self` does so always, the others by the repeats, where these are known.
 fn leads_back(repeats: Option<(u64, u64)>, toward: Toward) -> bool
     requires { IfSome repeats AreRepeats }
     ensures { result ≡ leads_back repeats toward }

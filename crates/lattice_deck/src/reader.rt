@@ -3,6 +3,7 @@ ghost use Rattle.deck_shape.specs.Blocks.{BlockLines, block_at};
 ghost use Rattle.deck_shape.specs.Shapes.{IsFaultOf, IsShapeOf};
 ghost use Rattle.deck_shape.specs.WholeBlocks.{IsLatticeKind, IsWhole};
 ghost use Rattle.kmc_base.specs.declared.ids.FileId.TheVariants.{Lattice};
+ghost use Rattle.lattice_deck.specs.Faultless.{AreFaultless};
 ghost use Rattle.lattice_deck.specs.Parts.{part_of, values_at};
 
 use crate::faults::first_fault;
@@ -17,6 +18,7 @@ fn read_block(alloc: Global, bytes: &[u8], block: &Block) -> Result<LatticePart,
     requires kind { IsLatticeKind block.now.kind }
     requires whole { IsWhole (block_at bytes.now block.now) }
     ensures values { IfOk result (λ part. part_of (block_at bytes.now block.now) ≡ Ok (values_at bytes.now part)) }
+    ensures sound { IfOk result (λ _. AreFaultless block.now.kind (block_at bytes.now block.now).items) }
     ensures fault { IfErr result (IsFaultOf Lattice (part_of (block_at bytes.now block.now))) }
 {
     if let Some((line, kind)) = first_fault(alloc, block, bytes)? {
@@ -31,13 +33,15 @@ fn read_block(alloc: Global, bytes: &[u8], block: &Block) -> Result<LatticePart,
 
 /// The values of a lattice file, or its first fault of a value.
 ///
-/// The faults are those of `kind` from `NOT_NUMBER` to `TOO_MANY_SITES`; of the kinds that hold at the first faulty line
-/// the least is the fault. A fault that depends on a number of another line is found where that number has none itself. A
-/// type word that is no type is no fault here: its site has type 0 in the graph.
+/// The faults are those of `kind` from `NOT_NUMBER` to `TOO_MANY_SITES` but for `BAD_CHOICE` and `BAD_NAME`; of the kinds
+/// that hold at the first faulty line the least is the fault. A fault that depends on a number of another line is found
+/// where that number has none itself. A type word that is no type is no fault here: its site has type 0 in the graph.
 pub fn read(alloc: Global, bytes: &[u8], shape: &Shape) -> Result<LatticePart, DeckFault>
     requires { IsShapeOf Lattice bytes.now shape.now }
     ensures values { (block : BlockLines) → map (block_at bytes.now) shape.now.blocks ≡ block ∷ []
         → IfOk result (λ part. part_of block ≡ Ok (values_at bytes.now part)) }
+    ensures sound { (block : BlockLines) → map (block_at bytes.now) shape.now.blocks ≡ block ∷ []
+        → IfOk result (λ _. AreFaultless block.kind block.items) }
     ensures fault { (block : BlockLines) → map (block_at bytes.now) shape.now.blocks ≡ block ∷ []
         → IfErr result (IsFaultOf Lattice (part_of block)) }
 {

@@ -1,7 +1,11 @@
-ghost use Rattle.std.specs.Prelude.{◌≡◌, IfOk, map};
+ghost use Rattle.std.specs.Prelude.{◌≡◌, ℕ, List, Option, IfOk, map};
+ghost use Rattle.std.specs.Option.{option_map};
 ghost use Rattle.dec_text.specs.Spans.{line_at};
+ghost use Rattle.deck_shape.specs.LineFaults.{least_kind};
 ghost use Rattle.lattice_deck.specs.Faults.{site_rows_fault};
-ghost use Rattle.lattice_deck.specs.RowKinds.{kind_of};
+ghost use Rattle.lattice_deck.specs.RowKinds.{kind_of, with_kinds};
+ghost use Rattle.site_rows.specs.RowFaults.{first_that_holds, row_faults};
+ghost use Rattle.site_rows.specs.SiteRows.{SiteRow};
 
 use dec_text::Line;
 use deck_shape::kind::{
@@ -25,6 +29,14 @@ fn kind_of(fault: RowFault) -> u8
         RowFault::OneSided => ONE_SIDED,
     }
 }
+
+/// Of what is wrong with a row of a site that has the right form, the first has the least kind. It does nothing: its
+/// contract is the law.
+#[tactic(auto, using(crate::proofs::RowOrder::kinds_in_order))]
+pub fn row_kinds_rise()
+    ensures { (sites : Option ℕ) (above all : List SiteRow) (row : SiteRow)
+        → option_map kind_of (first_that_holds (row_faults sites above all row)) ≡ least_kind (with_kinds (row_faults sites above all row)) }
+{}
 
 /// The first fault of rows of sites, by its line and its kind.
 pub(crate) fn site_rows_fault(

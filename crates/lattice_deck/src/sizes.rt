@@ -8,6 +8,7 @@ use dec_text::Span;
 use deck_shape::kind::TOO_MANY_SITES;
 use deck_shape::{Block, Keyword, fault_if, lesser, numbers_kind, whole_value};
 use kmc_base::MAX_SITES;
+use site_rows::MAX_SITE_TYPES;
 
 /// The numbers of a lattice file that other lines depend on; `None` where the line that states one has a fault.
 #[derive(Clone, Copy, Debug)]
@@ -124,7 +125,7 @@ pub(crate) fn sizes_in(block: &Block, bytes: &[u8]) -> Sizes
 {
     Sizes {
         sites: sites_in(block, bytes),
-        types: stated(block, bytes, Keyword::NSiteTypes, 1000),
+        types: stated(block, bytes, Keyword::NSiteTypes, MAX_SITE_TYPES as u64),
         repeats: repeats_in(block, bytes),
     }
 }

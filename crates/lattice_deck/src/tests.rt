@@ -1,4 +1,4 @@
-use crate::{LatticePart, read, unknown_type};
+use crate::{LatticePart, read, row_kinds_rise, unknown_type};
 use deck_shape::{DeckFault, Fault, read_shape};
 use kmc_base::{FileId, OutOfMemory, SiteId};
 use std::alloc::Global;
@@ -73,6 +73,7 @@ fn faults_of_cells(rt: HostRuntime) -> Result<(), Fail> {
 #[test]
 fn faults_of_lists_of_sites(rt: HostRuntime) -> Result<(), Fail> {
     let alloc = rt.alloc();
+    row_kinds_rise();
     for (names, rows, line, kind) in [
         ("t u", "1 0.0 0.0 t 0\n", 5, 16),
         ("t u", "1 0.0 0.0 t\n2 1.0 0.0 t 0\n", 6, 17),

@@ -41,7 +41,9 @@ fn first_unknown<'a>(bytes: &[u8], names: &[Vec<u8>], words: &'a [Name]) -> Opti
         .find(|word| type_of(names, word.span.bytes(bytes)) == 0)
 }
 
-/// The first type word of a lattice file that is no number of a type and no name of one, by its line and its kind.
+/// The first type word of a lattice file that is neither the number of a type, from 1, nor the name of one: its line, and
+/// the kind `UNKNOWN_TYPE`. The type words are those of `site_types` in a periodic cell, and the fourth word of each row
+/// of an explicit lattice; a default lattice has none.
 pub fn unknown_type(bytes: &[u8], part: &LatticePart) -> Option<(u32, u8)>
     ensures { result ≡ unknown_type (values_at bytes.now part.now).type_names (values_at bytes.now part.now).type_words }
 {

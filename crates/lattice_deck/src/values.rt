@@ -12,12 +12,13 @@ ghost use Rattle.lattice_deck.specs.Parts.{behind_constant, cell_of, cell_values
 ghost use Rattle.site_rows.specs.Listed.{listed_lattice};
 ghost use Rattle.site_rows.specs.SiteRows.{rows_of};
 ghost use Rattle.site_rows.specs.TypeWords.{type_of};
+ghost use Rattle.site_rows.specs.declared.type_word.TheConstants.{MAX_SITE_TYPES};
 
 use crate::joins::joins_of;
 use crate::part::LatticePart;
 use crate::sizes::{Sizes, repeats_of, sizes_in};
 use dec_text::{Line, Span};
-use deck_shape::{Block, BlockKind, Keyword, Name};
+use deck_shape::{Block, BlockKind, Keyword, NO_WORD, Name};
 use kmc_base::{Items, OutOfMemory};
 use lattice_cell::{DefaultLattice, Join, expand_default, expand_periodic};
 use lattice_core::{Graph, GraphFault};
@@ -138,7 +139,7 @@ fn types_of(
     names: &[Vec<u8>],
     words: &[Span],
 ) -> Result<Vec<u16>, OutOfMemory>
-    requires { length names.now ≤ 1000 }
+    requires { length names.now ≤ MAX_SITE_TYPES }
     ensures { IfOk result (λ types. types.items ≡ map (type_of (map (λ name. name.items) names.now)) (map (bytes_at bytes.now) words.now)) }
 {
     let mut types = Vec::new(alloc);
@@ -197,8 +198,6 @@ fn cell_part(alloc: Global, block: &Block, bytes: &[u8]) -> Result<LatticePart, 
         type_words: Items::new(block.names_in(alloc, bytes, Keyword::SiteTypes)?),
     })
 }
-
-const NO_WORD: Span = Span { start: 0, end: 0 };
 
 /// The fourth word of a row of a site; an empty place where it has none.
 fn type_word(row: &Line) -> Span

@@ -17,7 +17,7 @@ returns-then-misses_word c =
     ∙ ap (λ kind. misses_word kind (map (item_at text) c.deref-2.result.now) rule) (sym (c.block.ensures text))
     ∙ sym c.misses_word.ensures
     ∙ c.if-misses_word.true in
-    sym (fourth_kind _ _ _ _ (names_no_lattice (line_at text c.args.line.now) rule) 5 6 7 8 10
+    sym (fourth_kind _ _ _ _ (names_no_lattice (line_at text c.args.line.now) rule) _ _ _ _ _
     (sym c.is_unsupported.ensures ∙ c.if-is_unsupported.false)
     (sym (c.has_other_count.ensures text) ∙ c.if-has_other_count.false)
     repeated
@@ -33,7 +33,7 @@ returns c =
     ∙ ap (λ kind. misses_word kind (map (item_at text) c.deref-2.result.now) rule) (sym (c.block.ensures text))
     ∙ sym c.misses_word.ensures
     ∙ c.if-misses_word.false in
-    sym (no_kind _ _ _ _ _ 5 6 7 8 10
+    sym (no_kind _ _ _ _ _ _ _ _ _ _
     (sym c.is_unsupported.ensures ∙ c.if-is_unsupported.false)
     (sym (c.has_other_count.ensures text) ∙ c.if-has_other_count.false)
     repeated
