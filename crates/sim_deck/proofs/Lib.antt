@@ -1,6 +1,10 @@
 mod FaultLines
 mod FormTable
+mod KeywordLines
 mod Maps
+mod NoFaults
 mod SamplingWords
 mod SoundLists
 mod Stated
+mod WrittenNumbers
+mod WrittenSamplings

@@ -1,10 +1,9 @@
 -- the lists of a file without faults
-use Rattle.std.proofs.Common.{◌≡◌, ◌∙◌, ap, sym, subst, ℕ, ◌≤◌, ◌==◌, ◌&&◌, ◌||◌, Bool, true, false, not, cond, List, [], ◌∷◌, length, map, Option, None, Some, IfSome, Result, Ok, Err, is_some, is_none, refl, arith, if◌then◌else◌, nat_le, nat_lt, unwrap_or, ⊎_elim}
-use Rattle.std.specs.List.{AllByRecursion, find, list_any}
+use Rattle.std.proofs.Common.{◌≡◌, ◌∙◌, ap, sym, subst, ℕ, ◌≤◌, ◌==◌, ◌&&◌, Bool, true, false, not, List, [], ◌∷◌, length, map, Option, None, Some, IfSome, Result, Ok, Err, is_some, is_none, refl, arith, if◌then◌else◌, nat_lt, unwrap_or}
+use Rattle.std.specs.List.{find, list_any}
 use Rattle.std.specs.Option.{option_map, option_map_or}
-use Rattle.std.specs.Cmp.Lexicographic.{same_text}
-use Rattle.std.proofs.lemmas.Bool.{cases_Bool}
 use Rattle.std.proofs.lemmas.List.{length-map}
+use Rattle.std.proofs.lemmas.Option.{IfSome_then}
 use Rattle.std.proofs.lemmas.Simd.{map-map}
 use Rattle.std.proofs.lemmas.Bool.Decides.{nat_tests}
 use Rattle.dec_text.specs.Wholes.{whole_number}
@@ -13,18 +12,18 @@ use Rattle.deck_shape.specs.Blocks.{BlockLines, ItemLines, has_keyword, stands}
 use Rattle.deck_shape.specs.Forms.{form_of}
 use Rattle.deck_shape.specs.Items.{names_on, words_of}
 use Rattle.deck_shape.specs.Keywords.{spelling}
-use Rattle.deck_shape.specs.LineWords.{arguments_of, head_of}
+use Rattle.deck_shape.specs.LineWords.{arguments_of}
 use Rattle.deck_shape.specs.Names.{on_line}
 use Rattle.deck_shape.specs.declared.keyword.Keyword.{Keyword}
 use Rattle.deck_shape.specs.declared.keyword.Keyword.TheVariants.{GasEnergies, GasMolarFracs, GasSpecsNames, NGasSpecies, NSurfSpecies, SurfSpecsDent, SurfSpecsNames}
 use Rattle.deck_shape.specs.declared.kind.TheConstants.{BAD_NAME, LIST_LENGTH, REPEATED_NAME}
-use Rattle.deck_shape.specs.FirstFault.{fault_or}
-use Rattle.deck_shape.proofs.Maps.{IfSome-find}
+use Rattle.sim_deck.proofs.KeywordLines.{no_fault_behind}
 use Rattle.sim_deck.proofs.Maps.{is_some-find}
-use Rattle.sim_deck.specs.Faults.{closing_kind, counts_in, fault_among, first_fault, form_kind, is_absent, item_kind, sound_count}
-use Rattle.deck_shape.specs.Lists.{fault_if, has_other_length, names_repeat}
+use Rattle.sim_deck.proofs.NoFaults.{holds_not, line_kind, neither, neither_holds, no_closing, none_mapped}
+use Rattle.sim_deck.specs.Faults.{closing_kind, count_in, counts_in, fault_among, first_fault, form_kind, is_absent, sound_count}
+use Rattle.deck_shape.specs.Lists.{has_other_length, names_repeat}
 use Rattle.sim_deck.specs.Lists.{is_bad_name, Counts, count_of, has_members}
-use Rattle.deck_shape.specs.Numbers.{is_whole_within, lesser, numbers_kind, whole_value}
+use Rattle.deck_shape.specs.Numbers.{is_whole_within, numbers_kind, whole_value}
 use Rattle.sim_deck.specs.Soundness.{AreNames}
 use Rattle.sim_deck.specs.Values.{SimValues, dentates_of, energy_of, fraction_of, values_of}
 use Rattle.sim_deck.specs.declared.forms.Count.{Count}
@@ -33,79 +32,6 @@ use Rattle.sim_deck.specs.declared.forms.Form.{Form}
 use Rattle.deck_shape.specs.declared.number.Number.{Number as Sort}
 use Rattle.sim_deck.specs.declared.forms.Form.TheVariants.{Names, Number, Numbers}
 use Rattle.sim_deck.specs.declared.forms.TheConstants.{DENTATES, ENERGY, FORMS, FRACTION, SPECIES_COUNT}
-
--- what follows where nothing is the fault
-
-none_or : (k : Option ℕ) (line : ℕ) (rest : Option (ℕ × ℕ)) → fault_or (option_map (λ kind. (line, kind)) k) rest ≡ None → (k ≡ None) × (rest ≡ None)
-none_or None line rest e = (refl, e)
-none_or (Some k) line rest e = absurd cc
-
-no_faults : (counts : Counts) (items : List ItemLines) (closing : Option (ℕ × ℕ)) → fault_among counts items closing ≡ None
-    → AllByRecursion (λ item. item_kind counts item ≡ None) items
-no_faults counts [] closing e = tt
-no_faults counts (item ∷ items) closing e =
-    let both = none_or (item_kind counts item) item.line.number (fault_among counts items closing) e in
-    (both.0, no_faults counts items closing both.1)
-
-no_closing : (counts : Counts) (items : List ItemLines) (closing : Option (ℕ × ℕ)) → fault_among counts items closing ≡ None → closing ≡ None
-no_closing counts [] closing e = e
-no_closing counts (item ∷ items) closing e =
-    no_closing counts items closing (none_or (item_kind counts item) item.line.number (fault_among counts items closing) e).1
-
-abbrev line_kind : ℕ → Option ℕ → Option (ℕ × ℕ)
-line_kind line k = option_map (λ kind. (line, kind)) k
-
-none_mapped : (k : Option ℕ) (line : ℕ) → line_kind line k ≡ None → k ≡ None
-none_mapped None line e = refl
-none_mapped (Some k) line e = absurd cc
-
-some_of : (a b : ℕ) (t : Bool) → (if t then Some a else Some b) ≡ None → ⊥
-some_of a b true e = cc
-some_of a b false e = cc
-
-pub neither : (a b : Option ℕ) → lesser a b ≡ None → (a ≡ None) × (b ≡ None)
-neither None b e = (refl, e)
-neither (Some a) None e = absurd cc
-neither (Some a) (Some b) e = absurd (some_of a b (nat_le a b) e)
-
-holds_not : (holds : Bool) (kind : ℕ) → fault_if holds kind ≡ None → holds ≡ false
-holds_not true kind e = absurd cc
-holds_not false kind e = refl
-
-pub neither_holds : (a b : Bool) → (a || b) ≡ false → (a ≡ false) × (b ≡ false)
-neither_holds true b e = absurd cc
-neither_holds false b e = (refl, e)
-
--- the form of the line of a keyword
-
-passes_found : {X : Type 0} (p : X → Bool) (xs : List X) → IfSome (find p xs) (λ x. p x ≡ true)
-passes_found p [] = tt
-passes_found p (x ∷ xs) =
-    ⊎_elim
-    (λ yes. subst (λ b. IfSome (cond b (Some x) (find p xs)) (λ y. p y ≡ true)) (sym yes) yes)
-    (λ no. subst (λ b. IfSome (cond b (Some x) (find p xs)) (λ y. p y ≡ true)) (sym no) (passes_found p xs))
-    (cases_Bool (p x))
-
-kind_at : (counts : Counts) (item : ItemLines) (keyword : Keyword) (form : Form) → form_of FORMS (spelling keyword) ≡ Some form → has_keyword keyword item ≡ true
-    → item_kind counts item ≡ form_kind counts form (words_of item)
-kind_at counts item keyword form known here =
-    let head : spelling keyword ≡ head_of item.line = same_text (spelling keyword) (head_of item.line) (sym here) in
-    ap (λ f. option_map_or (λ form. form_kind counts form (words_of item)) f None) (ap (form_of FORMS) (sym head) ∙ known)
-
-both_of : {X : Type 0} (P Q R : X → Type 0) → ((x : X) → P x → Q x → R x) → (r : Option X) → IfSome r P → IfSome r Q → IfSome r R
-both_of P Q R gives None p q = tt
-both_of P Q R gives (Some x) p q = gives x p q
-
--- the words behind a keyword have no fault
-pub no_fault_behind : (counts : Counts) (items : List ItemLines) (closing : Option (ℕ × ℕ)) (keyword : Keyword) (form : Form)
-    → form_of FORMS (spelling keyword) ≡ Some form → fault_among counts items closing ≡ None
-    → IfSome (find (has_keyword keyword) items) (λ item. form_kind counts form (words_of item) ≡ None)
-no_fault_behind counts items closing keyword form known e =
-    both_of (λ item. item_kind counts item ≡ None) (λ item. has_keyword keyword item ≡ true) (λ item. form_kind counts form (words_of item) ≡ None)
-    (λ item none here. sym (kind_at counts item keyword form known here) ∙ none)
-    (find (has_keyword keyword) items)
-    (IfSome-find (λ item. item_kind counts item ≡ None) (has_keyword keyword) items (no_faults counts items closing e))
-    (passes_found (has_keyword keyword) items)
 
 -- the numbers of species
 
@@ -120,7 +46,7 @@ few_species : (r : Result ℕ NotWhole) → whole_value 0 64 0 r ≤ 64
 few_species (Err e) = omega arith
 few_species (Ok n) = least_of_two (is_whole_within 0 64 n) n (at_most n)
 
-if_none : {X : Type 0} (k : Option ℕ) (a b : X) → k ≡ None → (if is_none k then a else b) ≡ a
+pub if_none : {X : Type 0} (k : Option ℕ) (a b : X) → k ≡ None → (if is_none k then a else b) ≡ a
 if_none None a b e = refl
 if_none (Some k) a b e = absurd cc
 
@@ -165,10 +91,6 @@ present_at : (items : List ItemLines) (keyword : Keyword) (count : ℕ) → (nat
     → (nat_lt 0 count && not (is_some (find (has_keyword keyword) items))) ≡ false
 present_at items keyword count e = ap (λ b. nat_lt 0 count && not b) (is_some-find (has_keyword keyword) items) ∙ e
 
-weaker : {X : Type 0} (P Q : X → Type 0) → ((x : X) → P x → Q x) → (r : Option X) → IfSome r P → IfSome r Q
-weaker P Q gives None p = tt
-weaker P Q gives (Some x) p = gives x p
-
 abbrev IsKindless : Counts → Form → ItemLines → Type 0
 IsKindless counts form item = form_kind counts form (words_of item) ≡ None
 
@@ -192,7 +114,8 @@ differ_in counts count (Some item) none =
     let both = neither _ _ (neither _ _ none).1 in
     (holds_not (names_repeat (words_of item)) REPEATED_NAME both.0, holds_not (list_any is_bad_name (words_of item)) BAD_NAME both.1)
 
-names_bytes : (r : Option ItemLines) → map (λ name. name.word.bytes) (option_map_or names_on r []) ≡ list_of r
+-- the names are the words of their list
+pub names_bytes : (r : Option ItemLines) → map (λ name. name.word.bytes) (option_map_or names_on r []) ≡ list_of r
 names_bytes None = refl
 names_bytes (Some item) = map-map (λ name. name.word.bytes) (on_line item.line.number) (arguments_of item.line)
 
@@ -212,8 +135,10 @@ one_each : {Y : Type 0} (f : List ℕ → Y) (list names : Option ItemLines) (n 
     → length (map f (list_of list)) ≡ length (option_map_or names_on names [])
 one_each f list names n count same = length-map (list_of list) f ∙ count ∙ sym (names_count names ∙ same)
 
--- each list has a member for each species, and the names of a list differ
-pub record AreLists (values : SimValues) : Type 0 where
+-- each list has a member for each species, as many as are stated, and the names of a list differ
+pub record AreLists (items : List ItemLines) (values : SimValues) : Type 0 where
+  pub stated_gas : count_in NGasSpecies items ≡ Some (length values.gas)
+  pub stated_surface : count_in NSurfSpecies items ≡ Some (length values.surface)
   pub gas : AreNames (map (λ name. name.word.bytes) values.gas)
   pub one_energy_each : length values.gas_energies ≡ length values.gas
   pub one_fraction_each : length values.gas_fractions ≡ length values.gas
@@ -247,11 +172,11 @@ counted : (counts : Counts) (items : List ItemLines) (closing : Option (ℕ × �
 counted counts items closing keyword form count n known none stated there long =
     let found = find (has_keyword keyword) items in
     length_of n found
-    (weaker (IsKindless counts form) (IsLong n) long found (no_fault_behind counts items closing keyword form known none))
+    (IfSome_then found (no_fault_behind counts items closing keyword form known none) long)
     (present_at items keyword n (ap (λ c. has_members c && not (stands keyword items)) (sym stated) ∙ there))
 
 lists_of : (items : List ItemLines) (line : ℕ)
-    → fault_among (counts_in items) items (line_kind line (closing_kind (counts_in items) items)) ≡ None → AreLists (values_of items)
+    → fault_among (counts_in items) items (line_kind line (closing_kind (counts_in items) items)) ≡ None → AreLists items (values_of items)
 lists_of items line none =
     let counts = counts_in items in
     let closing = line_kind line (closing_kind counts items) in
@@ -266,6 +191,8 @@ lists_of items line none =
     let surface_names = counted counts items closing SurfSpecsNames (Names Surface) Surface surface.0 refl none surface.1 there.surface_names (long_names counts Surface surface.0 surface.1) in
     let dentates = counted counts items closing SurfSpecsDent (Numbers DENTATES Surface) Surface surface.0 refl none surface.1 there.dentates (long_numbers counts DENTATES Surface surface.0 surface.1) in
     record {
+      stated_gas = gas.1 ∙ ap (λ n. Some n) (sym (names_count (find (has_keyword GasSpecsNames) items) ∙ gas_names));
+      stated_surface = surface.1 ∙ ap (λ n. Some n) (sym (names_count (find (has_keyword SurfSpecsNames) items) ∙ surface_names));
       gas =
           named (find (has_keyword GasSpecsNames) items) gas.0 gas_names gas.2
           (differ_in counts Gas (find (has_keyword GasSpecsNames) items) (no_fault_behind counts items closing GasSpecsNames (Names Gas) refl none));
@@ -277,5 +204,5 @@ lists_of items line none =
       one_number_each = one_each dentates_of (find (has_keyword SurfSpecsDent) items) (find (has_keyword SurfSpecsNames) items) surface.0 dentates surface_names;
     }
 
-pub sound_lists : (block : BlockLines) → first_fault block ≡ None → AreLists (values_of block.items)
+pub sound_lists : (block : BlockLines) → first_fault block ≡ None → AreLists block.items (values_of block.items)
 sound_lists block none = lists_of block.items block.end_line none

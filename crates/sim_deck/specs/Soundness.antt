@@ -1,15 +1,8 @@
 -- What the values of every simulation file without faults keep.
-use Rattle.std.specs.Prelude.{◌≡◌, ℕ, pos, negsuc, ◌^◌, ◌≤◌, ◌<◌, ◌-◌, true, false, List, None, map, length, unsigned_abs, IfSome, IsSomeAnd}
+use Rattle.std.specs.Prelude.{◌≡◌, ℕ, ◌^◌, ◌≤◌, ◌<◌, true, false, List, map, length, unsigned_abs, IfSome}
 use Rattle.std.specs.List.{All, list_any}
-use Rattle.deck_shape.specs.Blocks.{ItemLines}
-use Rattle.deck_shape.specs.Items.{words_behind}
 use Rattle.deck_shape.specs.Lists.{names_repeat}
-use Rattle.deck_shape.specs.Numbers.{is_up_to, numbers_kind}
-use Rattle.deck_shape.specs.declared.keyword.Keyword.{Keyword}
-use Rattle.deck_shape.specs.declared.keyword.Keyword.TheVariants.{GasEnergies, GasMolarFracs, MaxSteps, MaxTime, NGasSpecies, NSurfSpecies, Pressure, RandomSeed, SurfSpecsDent, Temperature}
-use Rattle.deck_shape.specs.declared.number.Number.{Number}
-use Rattle.deck_shape.specs.declared.number.Number.TheVariants.{Whole, Scaled, UpTo}
-use Rattle.sim_deck.specs.Faults.{is_infinity}
+use Rattle.deck_shape.specs.Numbers.{is_up_to}
 use Rattle.sim_deck.specs.Lists.{is_bad_name}
 use Rattle.sim_deck.specs.Values.{SimValues}
 use Rattle.sim_deck.specs.declared.part.Plan.{Plan}
@@ -61,30 +54,3 @@ pub record IsSoundPart (values : SimValues) : Type 0 where
   pub surface : AreNames (map (λ name. name.word.bytes) values.surface)
   pub one_number_each : length values.dentates ≡ length values.surface
   pub dentates : All (λ d. (1 ≤ d) × (d ≤ 8)) values.dentates
-
--- the words behind a keyword, where it stands, are numbers of this kind
-abbrev pub States : Number → Keyword → List ItemLines → Type 0
-States number keyword items = IfSome (words_behind keyword items) (λ words. numbers_kind number words ≡ None)
-
--- the keyword stands, and the words behind it are numbers of this kind
-abbrev pub HasToState : Number → Keyword → List ItemLines → Type 0
-HasToState number keyword items = IsSomeAnd (words_behind keyword items) (λ words. numbers_kind number words ≡ None)
-
--- or `infinity`
-abbrev pub StatesOrInfinity : Number → Keyword → List ItemLines → Type 0
-StatesOrInfinity number keyword items =
-    IfSome (words_behind keyword items) (λ words. is_infinity words ≡ false → numbers_kind number words ≡ None)
-
--- Each number that a file states is one that the values take: for no stated number a default stands. A temperature and
--- a pressure are stated.
-pub record StatesNumbers (items : List ItemLines) : Type 0 where
-  pub seed : States (Whole 0 (2 ^ 64 - 1)) RandomSeed items
-  pub temperature : HasToState (Scaled 3 (pos 1) (pos 10000000)) Temperature items
-  pub pressure : HasToState (UpTo 9) Pressure items
-  pub gas : States (Whole 0 64) NGasSpecies items
-  pub surface : States (Whole 0 64) NSurfSpecies items
-  pub energies : States (Scaled 9 (negsuc 999999999999) (pos 1000000000000)) GasEnergies items
-  pub fractions : States (UpTo 0) GasMolarFracs items
-  pub dentates : States (Whole 1 8) SurfSpecsDent items
-  pub max_steps : StatesOrInfinity (Whole 0 (2 ^ 40 - 1)) MaxSteps items
-  pub max_time : StatesOrInfinity (Scaled 18 (pos 0) (pos (10 ^ 30))) MaxTime items

@@ -4,7 +4,8 @@ ghost use Rattle.deck_shape.specs.Shapes.{IsFaultOf, IsShapeOf};
 ghost use Rattle.deck_shape.specs.WholeBlocks.{IsWhole};
 ghost use Rattle.deck_shape.specs.declared.table.BlockKind.TheVariants.{Simulation as SimulationBlock};
 ghost use Rattle.kmc_base.specs.declared.ids.FileId.TheVariants.{Simulation};
-ghost use Rattle.sim_deck.specs.Soundness.{IsSoundPart, StatesNumbers};
+ghost use Rattle.sim_deck.specs.Soundness.{IsSoundPart};
+ghost use Rattle.sim_deck.specs.Stated.{StatesValues};
 ghost use Rattle.sim_deck.specs.Values.{part_of, values_at};
 
 use crate::faults::first_fault;
@@ -20,7 +21,7 @@ fn read_block(alloc: Global, bytes: &[u8], block: &Block) -> Result<SimPart, Dec
     requires whole { IsWhole (block_at bytes.now block.now) }
     ensures values { IfOk result (λ part. part_of (block_at bytes.now block.now) ≡ Ok (values_at bytes.now part)) }
     ensures sound { IfOk result (λ part. IsSoundPart (values_at bytes.now part)) }
-    ensures stated { IfOk result (λ _. StatesNumbers (block_at bytes.now block.now).items) }
+    ensures stated { IfOk result (λ part. StatesValues (block_at bytes.now block.now).items (values_at bytes.now part)) }
     ensures fault { IfErr result (IsFaultOf Simulation (part_of (block_at bytes.now block.now))) }
 {
     if let Some((line, kind)) = first_fault(alloc, block, bytes)? {
@@ -44,7 +45,7 @@ pub fn read(alloc: Global, bytes: &[u8], shape: &Shape) -> Result<SimPart, DeckF
         → IfOk result (λ part. part_of block ≡ Ok (values_at bytes.now part)) }
     ensures sound { IfOk result (λ part. IsSoundPart (values_at bytes.now part)) }
     ensures stated { (block : BlockLines) → map (block_at bytes.now) shape.now.blocks ≡ block ∷ []
-        → IfOk result (λ _. StatesNumbers block.items) }
+        → IfOk result (λ part. StatesValues block.items (values_at bytes.now part)) }
     ensures fault { (block : BlockLines) → map (block_at bytes.now) shape.now.blocks ≡ block ∷ []
         → IfErr result (IsFaultOf Simulation (part_of block)) }
 {

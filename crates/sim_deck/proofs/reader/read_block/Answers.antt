@@ -1,15 +1,16 @@
 use Rattle.std.proofs.Common.{◌≡◌, ◌∙◌, None, sym, subst}
 use Rattle.deck_shape.specs.Blocks.{block_at}
 use Rattle.sim_deck.proofs.SoundLists.{AreLists, sound_lists}
-use Rattle.sim_deck.proofs.Stated.{states_numbers}
+use Rattle.sim_deck.proofs.Stated.{states_values}
 use Rattle.sim_deck.specs.Faults.{first_fault}
+use Rattle.sim_deck.specs.Stated.{StatesValues}
 use Rattle.sim_deck.proofs.reader.read_block.Goals as goal
 
 pub returns-clause-sound : goal.returns-clause-sound
 returns-clause-sound c =
     let block = block_at c.args.bytes.now c.args.block.now in
     let none : first_fault block ≡ None = sym c.in_ok-line.ensures ∙ c.in_default.is in
-    let lists = subst AreLists (sym c.in_ok-values_of.ensures.value) (sound_lists block none) in
+    let lists = subst (AreLists block.items) (sym c.in_ok-values_of.ensures.value) (sound_lists block none) in
     let numbers = c.in_ok-values_of.ensures.range in
     record {
       plan = numbers.plan;
@@ -28,4 +29,6 @@ returns-clause-sound c =
 
 pub returns-clause-stated : goal.returns-clause-stated
 returns-clause-stated c =
-    states_numbers (block_at c.args.bytes.now c.args.block.now) c.requires.kind c.requires.whole (sym c.in_ok-line.ensures ∙ c.in_default.is)
+    let block = block_at c.args.bytes.now c.args.block.now in
+    subst (StatesValues block.items) (sym c.in_ok-values_of.ensures.value)
+    (states_values block c.requires.kind c.requires.whole (sym c.in_ok-line.ensures ∙ c.in_default.is))
