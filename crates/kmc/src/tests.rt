@@ -20,6 +20,20 @@ const OUTPUTS: [(OutId, &str); 3] = [
     (OutId::Specnum, "specnum_output.txt"),
 ];
 
+/// Begins all outputs, and then adds to each in turn, twice: its own name, and a point.
+fn write_in_turn<R: Files>(folder: &mut DiskFolder<R>) -> Result<(), Failed> {
+    for (out, _) in OUTPUTS {
+        folder.begin(out)?;
+    }
+    for (out, name) in OUTPUTS {
+        folder.append(out, name.as_bytes())?;
+    }
+    for (out, _) in OUTPUTS {
+        folder.append(out, b".")?;
+    }
+    Ok(())
+}
+
 #[test]
 fn folder_reads_and_writes_the_working_directory(rt: HostRuntime) -> Result<(), Fail> {
     let mut folder = DiskFolder::new(&rt);
@@ -50,6 +64,13 @@ fn folder_reads_and_writes_the_working_directory(rt: HostRuntime) -> Result<(), 
         folder.append(out, b"two")?;
         DiskFolder::new(&rt).append(out, b" three")?;
         assert_eq!(rt; fs::read_to_string(&rt, name)?.as_str(), "one two three");
+        fs::remove_file(&rt, name)?;
+    }
+
+    write_in_turn(&mut folder)?;
+    for (_, name) in OUTPUTS {
+        let text = format!(in rt.alloc(); "{name}.")?;
+        assert_eq!(rt; fs::read_to_string(&rt, name)?, text);
         fs::remove_file(&rt, name)?;
     }
     Ok(())

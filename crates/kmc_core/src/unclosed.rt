@@ -97,11 +97,12 @@ impl Unclosed {
     }
 
     /// Lists the instances of the whole lattice anew: an instance that was there with the same rate,
-    /// and was not the one fired, keeps its entry; every other is drawn at this event. A refusal
-    /// leaves the run as it was.
+    /// and was not the one fired, keeps its entry; every other is drawn at this event. Where they are
+    /// listed already it does nothing, and takes no memory. A refusal leaves the run as it was.
     pub fn rescan(&mut self, alloc: Global) -> Result<(), OutOfMemory>
         ensures ok { OnOk result (self.new ≡ record self.old { undone = 0 }) }
         ensures err { OnErr result (self.new ≡ self.old) }
+        ensures needed { OnErr result (self.old.undone ≢ 0) }
     {
         if !self.listed {
             self.lists
