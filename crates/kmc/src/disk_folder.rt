@@ -132,6 +132,8 @@ impl<R: Files> Folder for DiskFolder<R> {
 
     ghost outs = { λ _. None };
 
+    ghost loads = { λ _. None };
+
     fn load(&mut self, alloc: Global, file: FileId, max: usize) -> Result<Vec<u8>, LoadFault> {
         let loaded = load_input(&self.runtime, alloc, name_of_input(file), max);
         if let Err(LoadFault::Failed) = &loaded {

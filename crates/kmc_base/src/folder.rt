@@ -1,6 +1,8 @@
-ghost use Rattle.std.specs.Prelude.{◌≡◌, ℕ, Option, OnOk, OnErr, IfSome, IsErrOf};
+ghost use Rattle.std.specs.Prelude.{◌≡◌, ◌↔◌, ℕ, Option, OnOk, OnErr, IfSome, IsErrOf, IsTrue};
+ghost use Rattle.std.specs.Option.{option_map};
 ghost use Rattle.kmc_base.specs.Faults.{Rose, SameCounts, SameCountsBut};
 ghost use Rattle.kmc_base.specs.Files.{Files, Loads, UnlessFailed, file_of};
+ghost use Rattle.kmc_base.specs.Numbered.{Numbered, next_fails, one_call_more};
 ghost use Rattle.kmc_base.specs.Outs.{Outs, MayAppend, MayBegin, appended, begun};
 ghost use Rattle.kmc_base.specs.Told.{Tells};
 ghost use Rattle.kmc_base.specs.declared.ids.FileId.{FileId};
@@ -41,12 +43,16 @@ pub trait Folder {
     /// The bytes of its outputs, where it tells them.
     ghost outs: { Self → Option Outs };
 
+    /// Which of its loads fail, by their numbers, and how many were made, where it tells that.
+    ghost loads: { Self → Option Numbered };
+
     /// Reads a whole file.
     ///
     /// # Errors
     ///
     /// Where the folder tells its files, `Absent` comes exactly where there is no such file, and
-    /// `TooLong` exactly where it has more than `max` bytes.
+    /// `TooLong` exactly where it has more than `max` bytes. Where it tells which loads fail, `Failed`
+    /// comes exactly at those.
     fn load(&mut self, alloc: Global, file: FileId, max: usize) -> Result<Vec<u8>, LoadFault>
         ensures answer { IfSome (files self.old) (λ told. Loads (file_of told file) max result) }
         ensures cause { IsErrOf result LoadFault.Failed → Rose (read_faults self.old file) (read_faults self.new file) }
@@ -54,7 +60,9 @@ pub trait Folder {
         ensures other_reads { SameCountsBut file (read_faults self.old) (read_faults self.new) }
         ensures writes { SameCounts (write_faults self.old) (write_faults self.new) }
         ensures files { files self.new ≡ files self.old }
-        ensures outs { outs self.new ≡ outs self.old };
+        ensures outs { outs self.new ≡ outs self.old }
+        ensures numbered { IfSome (loads self.old) (λ calls. IsErrOf result LoadFault.Failed ↔ IsTrue (next_fails calls)) }
+        ensures loads { loads self.new ≡ option_map one_call_more (loads self.old) };
 
     /// Makes an output empty, and creates it where it is not there.
     ///
@@ -68,7 +76,8 @@ pub trait Folder {
         ensures no_fault { OnOk result (SameCounts (write_faults self.old) (write_faults self.new)) }
         ensures other_writes { SameCountsBut out (write_faults self.old) (write_faults self.new) }
         ensures reads { SameCounts (read_faults self.old) (read_faults self.new) }
-        ensures files { files self.new ≡ files self.old };
+        ensures files { files self.new ≡ files self.old }
+        ensures loads { loads self.new ≡ loads self.old };
 
     /// Adds bytes at the end of an output. An output that is not there counts as empty.
     ///
@@ -82,5 +91,6 @@ pub trait Folder {
         ensures no_fault { OnOk result (SameCounts (write_faults self.old) (write_faults self.new)) }
         ensures other_writes { SameCountsBut out (write_faults self.old) (write_faults self.new) }
         ensures reads { SameCounts (read_faults self.old) (read_faults self.new) }
-        ensures files { files self.new ≡ files self.old };
+        ensures files { files self.new ≡ files self.old }
+        ensures loads { loads self.new ≡ loads self.old };
 }

@@ -139,6 +139,8 @@ impl Folder for MemoryFolder {
 
     ghost outs = { λ m. m.outs };
 
+    ghost loads = { λ m. Some m.loads };
+
     fn load(&mut self, alloc: Global, file: FileId, max: usize) -> Result<Vec<u8>, LoadFault>
         ensures left { self.new ≡ after_load file self.old }
         ensures fails { IsErrOf result LoadFault.Failed ↔ IsTrue (next_fails self.old.loads) }
