@@ -1,7 +1,8 @@
 -- What the program may answer, and what it leaves in the outputs.
-use Rattle.std.specs.Prelude.{◌≡◌, ℕ, [], ◌∷◌, Bool, false, List, Option, None, Some, IfSome, Result, Ok, Err, codes}
+use Rattle.std.specs.Prelude.{◌≡◌, ◌≢◌, ℕ, [], ◌∷◌, Bool, false, List, Option, None, Some, IfSome, Result, Ok, Err, codes, if◌then◌else◌}
 use Rattle.deck_shape.specs.Tables.{same_word}
 use Rattle.deck_shape.specs.declared.fault.Fault.{Fault}
+use Rattle.kmc_base.specs.Numbered.{Numbered, next_fails, one_call_more}
 use Rattle.kmc_base.specs.Outs.{Outs}
 use Rattle.kmc_base.specs.declared.ids.FileId.{FileId}
 use Rattle.kmc_base.specs.declared.ids.FileId.TheVariants.{Simulation, Lattice, Energetics, Mechanism, State}
@@ -40,6 +41,20 @@ IsOfDeck State = ⊥
 -- no file but those of a deck is read: if one could not be read, it is one of them
 abbrev pub ReadsDeck : Status → Type 0
 ReadsDeck status = IfSome (failed_read status) IsOfDeck
+
+-- the files of a deck, in the order in which they are loaded
+abbrev pub deck_files : List FileId
+deck_files = Simulation ∷ Lattice ∷ Energetics ∷ Mechanism ∷ []
+
+-- of files that are loaded one after another, the first whose load fails, by the numbers of the loads that fail
+abbrev pub first_failing : Numbered → List FileId → Option FileId
+first_failing calls [] = None
+first_failing calls (file ∷ files) = if next_fails calls then Some file else first_failing (one_call_more calls) files
+
+-- Unless memory was short, the file that could not be read is the first of these whose load fails, where that is told,
+-- and none where none fails.
+abbrev pub FailsInOrder : List FileId → Option Numbered → Status → Type 0
+FailsInOrder files loads status = IfSome loads (λ calls. status ≢ OutOfMemory → failed_read status ≡ first_failing calls files)
 
 -- the output that could not be written, by a status
 abbrev pub failed_write : Status → Option OutId

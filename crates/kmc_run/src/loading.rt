@@ -1,6 +1,8 @@
-ghost use Rattle.std.specs.Prelude.{◌≡◌, IfOk, IfErr, IfSome, OnOk};
+ghost use Rattle.std.specs.Prelude.{◌≡◌, ◌∷◌, IfOk, IfErr, IfSome, List, None, OnOk, false};
+ghost use Rattle.std.specs.Option.{option_map};
 ghost use Rattle.kmc_base.specs.Faults.{OnlyFailed, SameCounts};
-ghost use Rattle.kmc_run.specs.Answers.{IsLoadFault, IsOfDeck, ReadsDeck, failed_read};
+ghost use Rattle.kmc_base.specs.Numbered.{next_fails, one_call_more};
+ghost use Rattle.kmc_run.specs.Answers.{FailsInOrder, IsLoadFault, IsOfDeck, ReadsDeck, deck_files, failed_read, first_failing};
 ghost use Rattle.kmc_run.specs.Texts.{IsShort, text_of, texts_of};
 
 use crate::status::Status;
@@ -22,6 +24,9 @@ fn load_text<F: Folder>(alloc: Global, folder: &mut F, file: FileId) -> Result<T
     ensures writes { SameCounts (F.write_faults folder.old) (F.write_faults folder.new) }
     ensures files { F.files folder.new ≡ F.files folder.old }
     ensures outs { F.outs folder.new ≡ F.outs folder.old }
+    ensures failed { (others : List FileId) → IfErr result (FailsInOrder (file ∷ others) (F.loads folder.old)) }
+    ensures passed { IfOk result (λ _. IfSome (F.loads folder.old) (λ calls. next_fails calls ≡ false)) }
+    ensures loads { F.loads folder.new ≡ option_map one_call_more (F.loads folder.old) }
 {
     match folder.load(alloc, file, MAX_BYTES) {
         Ok(bytes) if bytes.len() <= MAX_BYTES => Ok(Text::Bytes(Items::new(bytes))),
@@ -43,6 +48,8 @@ pub(crate) fn load_texts<F: Folder>(alloc: Global, folder: &mut F) -> Result<Tex
     ensures writes { SameCounts (F.write_faults folder.old) (F.write_faults folder.new) }
     ensures files { F.files folder.new ≡ F.files folder.old }
     ensures outs { F.outs folder.new ≡ F.outs folder.old }
+    ensures failed { IfErr result (FailsInOrder deck_files (F.loads folder.old)) }
+    ensures passed { IfOk result (λ _. IfSome (F.loads folder.old) (λ calls. first_failing calls deck_files ≡ None)) }
 {
     let simulation = load_text(alloc, folder, FileId::Simulation)?;
     let lattice = load_text(alloc, folder, FileId::Lattice)?;

@@ -1,6 +1,6 @@
 ghost use Rattle.std.specs.Prelude.{◌≡◌, ◌≢◌, ◌↔◌, false, true, IfSome, map, string_bytes};
 ghost use Rattle.kmc_base.specs.Faults.{OnlyFailed};
-ghost use Rattle.kmc_run.specs.Answers.{are_right, failed_read, failed_write, KeepsOuts, Leaves, MayAnswer, ReadsDeck};
+ghost use Rattle.kmc_run.specs.Answers.{are_right, deck_files, failed_read, failed_write, FailsInOrder, KeepsOuts, Leaves, MayAnswer, ReadsDeck};
 ghost use Rattle.kmc_run.specs.PlainDecks.{deck_of_files};
 
 use crate::drive_fault::DriveFault;
@@ -36,6 +36,7 @@ fn run<R: Threads + Sync, F: Folder, G: Gate + Sync>(
     ensures kept { KeepsOuts result (F.outs folder.old) (F.outs folder.new) }
     ensures reads { OnlyFailed (failed_read result) (F.read_faults folder.old) (F.read_faults folder.new) }
     ensures of_deck { ReadsDeck result }
+    ensures order { FailsInOrder deck_files (F.loads folder.old) result }
     ensures writes { OnlyFailed (failed_write result) (F.write_faults folder.old) (F.write_faults folder.new) }
     ensures files { F.files folder.new ≡ F.files folder.old }
     ensures words { result ≢ Status.BadWords }
@@ -80,6 +81,8 @@ pub fn run_program<R: Threads + Sync, F: Folder, S: Sink, G: Gate + Sync>(
     ensures reads { OnlyFailed (failed_read result) (F.read_faults folder.old) (F.read_faults folder.new) }
     // The file of a fault of reading is one of those of a deck: no other is read.
     ensures of_deck { ReadsDeck result }
+    // Files are read in order: of those whose reading would fail, the first is answered, unless memory was short.
+    ensures order { are_right (map string_bytes words.now) ≡ true → FailsInOrder deck_files (F.loads folder.old) result }
     ensures writes { OnlyFailed (failed_write result) (F.write_faults folder.old) (F.write_faults folder.new) }
     ensures files { F.files folder.new ≡ F.files folder.old }
     ensures screen { _screen.new ≡ _screen.old }
