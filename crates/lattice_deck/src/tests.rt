@@ -71,6 +71,27 @@ fn faults_of_cells(rt: HostRuntime) -> Result<(), Fail> {
 }
 
 #[test]
+fn limits_of_sites_and_types(rt: HostRuntime) -> Result<(), Fail> {
+    let alloc = rt.alloc();
+    for (sites, types, line, kind) in [
+        ("65536", "1", 5, 16),
+        ("65537", "1", 2, 13),
+        ("1", "1000", 4, 15),
+        ("1", "1001", 3, 13),
+    ] {
+        let text = format!(in alloc;
+            "lattice explicit\nn_sites {sites}\nn_site_types {types}\nsite_type_names t\nlattice_structure\n1 0.0 0.0 t 0\nend_lattice_structure\nend_lattice\n"
+        )?;
+        assert_eq!(rt;
+            fault_of(alloc, text.as_bytes())?,
+            Some((line, kind)),
+            "{sites} {types}"
+        );
+    }
+    Ok(())
+}
+
+#[test]
 fn faults_of_lists_of_sites(rt: HostRuntime) -> Result<(), Fail> {
     let alloc = rt.alloc();
     row_kinds_rise();
