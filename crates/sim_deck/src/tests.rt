@@ -47,6 +47,10 @@ fn answers_the_first_fault(rt: HostRuntime) -> Result<(), Fail> {
         ("random_seed -1\nmax_time x\n", 1, 12),
         ("max_time x\nrandom_seed -1\n", 1, 11),
         ("gas_specs_names A B\nn_gas_species 65\n", 2, 13),
+        ("max_steps 1099511627776\n", 1, 13),
+        ("snapshots on event 1099511627776\n", 1, 13),
+        ("n_gas_species 1\ngas_energies 1000.000000001\n", 2, 13),
+        ("n_surf_species 1\nsurf_specs_dent 9\n", 2, 13),
     ] {
         let text = format!(in alloc; "{lines}temperature 500.0\npressure 1.0\nfinish\n")?;
         assert_eq!(rt;
@@ -55,8 +59,21 @@ fn answers_the_first_fault(rt: HostRuntime) -> Result<(), Fail> {
             "{lines}"
         );
     }
-    let cold = b"temperature 0.0004\npressure 1.0\nfinish\n";
-    assert_eq!(rt; fault_of(alloc, cold)?, Some((1, 13)));
+    for (text, line) in [
+        (b"temperature 0.0004\npressure 1.0\nfinish\n".as_slice(), 1),
+        (b"temperature 10000.001\npressure 1.0\nfinish\n", 1),
+        (b"temperature 500.0\npressure 1000000001.0\nfinish\n", 2),
+    ] {
+        assert_eq!(rt; fault_of(alloc, text)?, Some((line, 13)));
+    }
+    Ok(())
+}
+
+#[test]
+fn takes_the_limits(rt: HostRuntime) -> Result<(), Fail> {
+    let text =
+        b"random_seed 18446744073709551615\ntemperature 10000.0\npressure 1e9\nn_gas_species 2\ngas_specs_names A B\ngas_energies 1000.0 -1000.0\ngas_molar_fracs 1.0 0.0\nn_surf_species 1\nsurf_specs_names C\nsurf_specs_dent 8\nsnapshots on event 1099511627775\nspecies_numbers on time 1e12\nmax_steps 1099511627775\nmax_time 1e12\nfinish\n";
+    assert_eq!(rt; fault_of(rt.alloc(), text)?, None);
     Ok(())
 }
 
