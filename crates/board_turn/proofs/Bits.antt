@@ -26,7 +26,9 @@ zero-Within a p = omega (arith, bit_at-zero p)
 
 -- the mask of one piece
 pub pow-Within : (k a : ℕ) → bit_at a k ≡ 1 → Within (2 ^ k) a
-pow-Within k a e p = dite (ℕ_discrete p k) (λ is. subst (λ q. bit_at (2 ^ k) q ≤ bit_at a q) (sym is) (omega (arith, bit_at-lt (2 ^ k) k))) (λ ne. omega (arith, bit_at-pow_other k p ne))
+pow-Within k a e p = dite (ℕ_discrete p k)
+    (λ is. subst (λ q. bit_at (2 ^ k) q ≤ bit_at a q) (sym is) (omega (arith, bit_at-lt (2 ^ k) k)))
+    (λ ne. omega (arith, bit_at-pow_other k p ne))
 
 pub unset_bit : (n k : ℕ) → bit_and n (2 ^ k) ≡ 0 → bit_at n k ≡ 0
 unset_bit n k e = dite (ℕ_discrete (bit_at n k) 0) (λ z. z) (λ nz.
@@ -35,7 +37,8 @@ unset_bit n k e = dite (ℕ_discrete (bit_at n k) 0) (λ z. z) (λ nz.
     absurd (omega (arith, pow_pos k)))
 
 pub set_bit : (n k : ℕ) → bit_and n (2 ^ k) ≢ 0 → bit_at n k ≡ 1
-set_bit n k ne = dite (ℕ_discrete (bit_at n k) 0) (λ z. absurd (ne (and_pow n k ∙ ap (λ b. b * 2 ^ k) z ∙ zero-mul (2 ^ k)))) (λ nz. omega (arith, bit_at-lt n k))
+set_bit n k ne = dite (ℕ_discrete (bit_at n k) 0)
+    (λ z. absurd (ne (and_pow n k ∙ ap (λ b. b * 2 ^ k) z ∙ zero-mul (2 ^ k)))) (λ nz. omega (arith, bit_at-lt n k))
 
 -- sets with no piece in common
 pub apart_bits : (a b p : ℕ) → bit_and a b ≡ 0 → min (bit_at a p) (bit_at b p) ≡ 0

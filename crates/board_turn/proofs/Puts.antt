@@ -13,13 +13,19 @@ module _ {B K : Type 0} (is_patch : B → K → Type 0) (done : B → ℕ) where
     pub within : Within (done new) (bit_or known claims)
 
 module _ {B K F M X : Type 0} (is_patch : B → K → Type 0) (is_right : K → F → Type 0) (done : B → ℕ) where
-  pub put_keeps : (r : Result X (F × M)) (old new : B) (shown : Option K) (finding : F) (piece known claims : ℕ) → OnOk r (done new ≡ bit_or (done old) (2 ^ piece))
-      → OnOk r ((k : K) → is_patch old k → is_right k finding → is_patch new k) → IfErr r (λ back. (back.0 ≡ finding) × (new ≡ old)) → ForSome shown (λ key. is_right key finding) → bit_at claims piece ≡ 1
-      → ForSome shown (λ key. is_patch old key) → Within known (done old) → Within (done old) (bit_or known claims) → Keeps is_patch done new shown known claims
+  pub put_keeps : (r : Result X (F × M)) (old new : B) (shown : Option K) (finding : F) (piece known claims : ℕ)
+      → OnOk r (done new ≡ bit_or (done old) (2 ^ piece))
+      → OnOk r ((k : K) → is_patch old k → is_right k finding → is_patch new k)
+      → IfErr r (λ back. (back.0 ≡ finding) × (new ≡ old)) → ForSome shown (λ key. is_right key finding)
+      → bit_at claims piece ≡ 1
+      → ForSome shown (λ key. is_patch old key) → Within known (done old) → Within (done old) (bit_or known claims)
+      → Keeps is_patch done new shown known claims
   put_keeps (Ok x) old new shown finding piece known claims did patched back right claimed patch grows within = record {
     patch = λ key is. patched key (patch key is) (right key is);
     grows = subst (Within known) (sym did) (Within-or known (done old) (2 ^ piece) grows);
-    within = subst (λ n. Within n (bit_or known claims)) (sym did) (or-Within (done old) (2 ^ piece) (bit_or known claims) within (pow-Within piece (bit_or known claims) (omega (arith, bit_at_or known claims piece))));
+    within = subst (λ n. Within n (bit_or known claims)) (sym did)
+        (or-Within (done old) (2 ^ piece) (bit_or known claims) within
+        (pow-Within piece (bit_or known claims) (omega (arith, bit_at_or known claims piece))));
   }
   put_keeps (Err e) old new shown finding piece known claims did patched back right claimed patch grows within = record {
     patch = λ key is. subst (λ x. is_patch x key) (sym back.1) (patch key is);
@@ -37,7 +43,8 @@ pub on_key : {K : Type 0} (P : K → Type 0) (o : Option K) (key : K) → o ≡ 
 on_key P o key shown p other is = let same : key ≡ other = cc in subst P same p
 
 -- one piece more is done, which is claimed: it joins the puts
-pub put_joins : (claims known done had puts piece : ℕ) → had ≡ bit_and claims known → done ≡ bit_or known (2 ^ piece) → puts ≡ bit_and claims done → bit_at claims piece ≡ 1 → puts ≡ bit_or had (2 ^ piece)
+pub put_joins : (claims known done had puts piece : ℕ) → had ≡ bit_and claims known → done ≡ bit_or known (2 ^ piece)
+    → puts ≡ bit_and claims done → bit_at claims piece ≡ 1 → puts ≡ bit_or had (2 ^ piece)
 put_joins claims known done had puts piece was more now claimed = same_from_bits puts (bit_or had (2 ^ piece)) (λ p. omega (
   arith,
   ap (λ n. bit_at n p) was,
@@ -50,7 +57,8 @@ put_joins claims known done had puts piece was more now claimed = same_from_bits
   pow-Within piece claims claimed p,
 ))
 
-pub put_has : (claims known done puts piece : ℕ) → done ≡ bit_or known (2 ^ piece) → puts ≡ bit_and claims done → bit_at claims piece ≡ 1 → bit_at puts piece ≡ 1
+pub put_has : (claims known done puts piece : ℕ) → done ≡ bit_or known (2 ^ piece) → puts ≡ bit_and claims done
+    → bit_at claims piece ≡ 1 → bit_at puts piece ≡ 1
 put_has claims known done puts piece more now claimed = omega (
   arith,
   ap (λ n. bit_at n piece) more,

@@ -1,5 +1,6 @@
 -- What a pass shows after a step.
-use Rattle.std.proofs.Common.{◌≡◌, ◌≢◌, ℕ, ◌^◌, ◌<◌, List, [], ◌∷◌, ◌++◌, length, false, Option, Some, None, ap, sym, subst, inr, ◌∙◌, arith, bit_and, bit_or, append_assoc, length-append, get_or}
+use Rattle.std.proofs.Common.{◌≡◌, ◌≢◌, ℕ, ◌^◌, ◌<◌, List, [], ◌∷◌, ◌++◌, length, false, Option, Some, None, ap, sym, subst, inr, ◌∙◌}
+use Rattle.std.proofs.Common.{arith, bit_and, bit_or, append_assoc, length-append, get_or}
 use Rattle.std.specs.Prelude.{All}
 use Rattle.std.proofs.Math.ListN.{get_or-append}
 use Rattle.std.proofs.Math.Seq.{get_or-append_seam}
@@ -33,7 +34,13 @@ module _ {S K : Type 0} where
   missed m n r bit piece is e =
       let seen : n.0.seen ≡ bit_or m.0.seen (bit_or r bit) = ap (λ x. x.0.seen) e in
       record {
-        found = omega (arith, ap (λ x. bit_at x piece) seen, bit_at_or m.0.seen (bit_or r bit) piece, or_has r bit piece is, bit_at-lt m.0.seen piece);
+        found = omega (
+          arith,
+          ap (λ x. bit_at x piece) seen,
+          bit_at_or m.0.seen (bit_or r bit) piece,
+          or_has r bit piece is,
+          bit_at-lt m.0.seen piece,
+        );
         claims = ap (λ x. x.0.claims) e;
         grows = λ p. omega (arith, ap (λ x. bit_at x p) seen, bit_at_or m.0.seen (bit_or r bit) p);
       }
@@ -90,7 +97,8 @@ module _ {S K : Type 0} where
       })
 
   -- a look, and a try that lost
-  pub busy_again : (old mid new : Seat S (View K)) (was seen : ℕ) → mid.me ≡ (looking old.me.0 was, old.me.1) → Learns old.me.0 was → new.me ≡ (looking mid.me.0 seen, mid.me.1) → Learns mid.me.0 seen
+  pub busy_again : (old mid new : Seat S (View K)) (was seen : ℕ) → mid.me ≡ (looking old.me.0 was, old.me.1)
+      → Learns old.me.0 was → new.me ≡ (looking mid.me.0 seen, mid.me.1) → Learns mid.me.0 seen
       → holder was ≡ 0 → seen ≢ was → 0 < old.me.0.number → old.me.0.holds ≡ false → IsBusy old new was seen
   busy_again old mid new was seen first learns last learns' free ne numbered idle =
       let found : mid.me.0.found ≡ old.me.0.found ++ was ∷ [] = ap (λ x. x.0.found) first in
@@ -100,7 +108,11 @@ module _ {S K : Type 0} where
         found = inr (ap (λ x. x.0.found) last ∙ (ap (λ l. l ++ seen ∷ []) found ∙ append_assoc old.me.0.found (was ∷ []) (seen ∷ [])), free, ne);
         apart = λ is. learns'.apart (subst (λ n. 0 < n) (sym number) numbered) (ap (λ x. x.0.holds) first ∙ idle) (is ∙ sym number);
         first = record { puts = learns.puts; found = learns.found };
-        last = record { puts = subst (λ (x : Me S (View K)). x.0.puts ≡ bit_and x.0.claims (mask seen)) first learns'.puts; found = all_front (λ w. Within (mask w) (mask seen)) old.me.0.found was all };
+        last = record {
+          puts = subst (λ (x : Me S (View K)). x.0.puts ≡ bit_and x.0.claims (mask seen)) first
+              learns'.puts;
+          found = all_front (λ w. Within (mask w) (mask seen)) old.me.0.found was all;
+        };
         grows = all_back (λ w. Within (mask w) (mask seen)) old.me.0.found was all;
         puts = ap (λ x. x.0.puts) last ∙ ap (λ x. x.0.puts) first;
         idle = ap (λ x. x.0.holds) last ∙ (ap (λ x. x.0.holds) first ∙ idle);
@@ -119,11 +131,14 @@ module _ {B K : Type 0} (is_patch : B → K → Type 0) (done_set : B → ℕ) w
     pub narrow : new.0.known < 281474976710656
     pub claims : new.0.claims ≡ old.0.claims
 
-  pub taken : (old mid m new : Me (Option B) (View K)) (was seen : ℕ) (parts : B) (key : K) (slot : Option B) → mid ≡ (looking old.0 was, old.1) → Took is_patch done_set mid seen m → seen ≡ was → m.1 ≡ (0, slot) ∷ rest m.1
+  pub taken : (old mid m new : Me (Option B) (View K)) (was seen : ℕ) (parts : B) (key : K) (slot : Option B)
+      → mid ≡ (looking old.0 was, old.1) → Took is_patch done_set mid seen m → seen ≡ was → m.1 ≡ (0, slot) ∷ rest m.1
       → new ≡ (m.0, (0, None) ∷ rest m.1) → slot ≡ Some parts → old.0.key ≡ Some key → holder was ≡ 0 → Taken old new was parts key
   taken old mid m new was seen parts key slot first t same_word out last is shows free =
       let word : mask seen ≡ was = ap mask same_word ∙ omega (arith, free) in
-      let same : t.parts ≡ parts = let two : (0, Some t.parts) ∷ rest m.1 ≡ (0, slot) ∷ rest m.1 = sym (out_with mid m seen t) ∙ out in let head : List (ℕ × Option B) → Option B = λ l. (get_or {A = ℕ × Option B} l 0 (0, slot)).1 in let one : Some t.parts ≡ slot = ap head two in cc in
+      let same : t.parts ≡ parts = let two : (0, Some t.parts) ∷ rest m.1 ≡ (0, slot) ∷ rest m.1 =
+      sym (out_with mid m seen t) ∙ out in let head : List (ℕ × Option B) → Option B =
+      λ l. (get_or {A = ℕ × Option B} l 0 (0, slot)).1 in let one : Some t.parts ≡ slot = ap head two in cc in
       let known : new.0.known ≡ mask seen = ap (λ x. x.0.known) last ∙ ap (λ x. x.0.known) t.seat in
       record {
         shows = ap (λ x. x.0.key) last ∙ (ap (λ x. x.0.key) t.seat ∙ (ap (λ x. x.0.key) first ∙ shows));

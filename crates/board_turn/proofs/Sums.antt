@@ -47,10 +47,15 @@ module _ {A : Type 0} where
   total_less f g (x ∷ xs) (suc j) v h e = omega (arith, h x, total_less f g xs j v h e)
 
   -- what holds of each other element, and of the new one
-  pub each_set : (P : A → Type 0) (l : List A) (i : ℕ) (b : A) → ((j : ℕ) (a : A) → j ≢ i → get_elem? l j ≡ some a → P a) → P b → (j : ℕ) (a : A) → get_elem? (set l i b) j ≡ some a → P a
-  each_set P l i b others mine j a e = ⊎_elim (λ (t : (j ≡ i) × (b ≡ a)). subst P t.1 mine) (λ (t : (j ≢ i) × (get_elem? l j ≡ some a)). others j a t.0 t.1) (at_set l i j b a e)
+  pub each_set : (P : A → Type 0) (l : List A) (i : ℕ) (b : A)
+      → ((j : ℕ) (a : A) → j ≢ i → get_elem? l j ≡ some a → P a) → P b → (j : ℕ) (a : A)
+      → get_elem? (set l i b) j ≡ some a → P a
+  each_set P l i b others mine j a e =
+      ⊎_elim (λ (t : (j ≡ i) × (b ≡ a)). subst P t.1 mine)
+      (λ (t : (j ≢ i) × (get_elem? l j ≡ some a)). others j a t.0 t.1) (at_set l i j b a e)
 
-  pub each_snoc : (P : A → Type 0) (l : List A) (b : A) → ((j : ℕ) (a : A) → get_elem? l j ≡ some a → P a) → P b → (j : ℕ) (a : A) → get_elem? (l ++ b ∷ []) j ≡ some a → P a
+  pub each_snoc : (P : A → Type 0) (l : List A) (b : A) → ((j : ℕ) (a : A) → get_elem? l j ≡ some a → P a) → P b
+      → (j : ℕ) (a : A) → get_elem? (l ++ b ∷ []) j ≡ some a → P a
   each_snoc P l b others mine j a e = ⊎_elim (λ t. others j a t) (λ (t : b ≡ a). subst P t mine) (at_snoc l b a j e)
 
 pub only-same : (k : ℕ) → only k k ≡ 1
@@ -64,7 +69,9 @@ below-only k zero = (omega arith, λ _. refl)
 below-only k (suc n) =
     let before = below-only k n in
     dite (ℕ_discrete n k)
-    (λ e. let none-yet = before.1 (omega arith) in let one : only k n ≡ 1 = subst (λ x. only k x ≡ 1) (sym e) (only-same k) in (omega arith, λ h. absurd (omega arith)))
+    (λ e. let none-yet = before.1 (omega arith) in
+    let one : only k n ≡ 1 = subst (λ x. only k x ≡ 1) (sym e) (only-same k) in
+    (omega arith, λ h. absurd (omega arith)))
     (λ ne. let zero-here = only-other k n ne in (omega (arith, before.0), λ h. omega (arith, before.1 (omega arith))))
 
 pub below-once : (k n : ℕ) → below (only k) n ≤ 1

@@ -1,5 +1,6 @@
 -- Points 3, 4 and 5 of the rule over the kinds of step.
-use Rattle.std.proofs.Common.{◌≡◌, ◌≢◌, ℕ, zero, suc, ◌+◌, ◌*◌, ◌<◌, ◌≤◌, List, [], ◌∷◌, ◌++◌, set, Bool, true, false, Option, Some, sym, refl, ap, subst, ◌∙◌, arith, bit_and, bit_or, true≢false}
+use Rattle.std.proofs.Common.{◌≡◌, ◌≢◌, ℕ, zero, suc, ◌+◌, ◌*◌, ◌<◌, ◌≤◌, List, [], ◌∷◌, ◌++◌, set, Bool, true, false, Option, Some, sym}
+use Rattle.std.proofs.Common.{refl, ap, subst, ◌∙◌, arith, bit_and, bit_or, true≢false}
 use Rattle.std.specs.Prelude.{All, slice_index_or}
 use mathlib.Core.Logic.{dite}
 use mathlib.Core.Option as m
@@ -19,25 +20,45 @@ use Rattle.board_turn.proofs.Bits.{Within-trans, apart_bits}
 use Rattle.board_turn.proofs.Claims.{apart_claims}
 
 -- the claims that are done stay the same where a piece is claimed that was not
-puts_same : (claims bit done drawn puts : ℕ) → puts ≡ bit_and claims done → Within done drawn → bit_and drawn bit ≡ 0 → puts ≡ bit_and (bit_or claims bit) done
+puts_same : (claims bit done drawn puts : ℕ) → puts ≡ bit_and claims done → Within done drawn → bit_and drawn bit ≡ 0
+    → puts ≡ bit_and (bit_or claims bit) done
 puts_same claims bit done drawn puts e within unset = e ∙ same_from_bits (bit_and claims done) (bit_and (bit_or claims bit) done)
-    (λ p. omega (arith, bit_at_and claims done p, bit_at_and (bit_or claims bit) done p, bit_at_or claims bit p, within p, apart_bits drawn bit p unset))
+    (λ p. omega (
+      arith,
+      bit_at_and claims done p,
+      bit_at_and (bit_or claims bit) done p,
+      bit_at_or claims bit p,
+      within p,
+      apart_bits drawn bit p unset,
+    ))
 
 -- and where pieces become done that are claimed by another
-puts_apart : (claims done done' others puts : ℕ) → puts ≡ bit_and claims done → Within done done' → Within done' (bit_or done others) → ((p : ℕ) → bit_at others p + bit_at claims p ≤ 1) → puts ≡ bit_and claims done'
+puts_apart : (claims done done' others puts : ℕ) → puts ≡ bit_and claims done → Within done done'
+    → Within done' (bit_or done others) → ((p : ℕ) → bit_at others p + bit_at claims p ≤ 1)
+    → puts ≡ bit_and claims done'
 puts_apart claims done done' others puts e grows within apart = e ∙ same_from_bits (bit_and claims done) (bit_and claims done')
     (λ p. omega (arith, bit_at_and claims done p, bit_at_and claims done' p, bit_at_or done others p, grows p, within p, apart p))
 
 puts_both : (a b done x y : ℕ) → x ≡ bit_and a done → y ≡ bit_and b done → bit_or x y ≡ bit_and (bit_or a b) done
 puts_both a b done x y e f = same_from_bits (bit_or x y) (bit_and (bit_or a b) done)
-    (λ p. omega (arith, bit_at_or x y p, ap (λ n. bit_at n p) e, ap (λ n. bit_at n p) f, bit_at_and a done p, bit_at_and b done p, bit_at_or a b p, bit_at_and (bit_or a b) done p))
+    (λ p. omega (
+      arith,
+      bit_at_or x y p,
+      ap (λ n. bit_at n p) e,
+      ap (λ n. bit_at n p) f,
+      bit_at_and a done p,
+      bit_at_and b done p,
+      bit_at_or a b p,
+      bit_at_and (bit_or a b) done p,
+    ))
 
 all_one : {A : Type 0} (P : A → Type 0) (x : A) → P x → All P (x ∷ [])
 all_one P x p zero d h = p
 all_one P x p (suc k) d h = absurd (omega arith)
 
 -- the found words with one more
-pub found_more : (done word : ℕ) (found : List ℕ) → All (λ w. Within (mask w) done) found → Within (mask word) done → All (λ w. Within (mask w) done) (found ++ word ∷ [])
+pub found_more : (done word : ℕ) (found : List ℕ) → All (λ w. Within (mask w) done) found → Within (mask word) done
+    → All (λ w. Within (mask w) done) (found ++ word ∷ [])
 found_more done word found all here = All-append (λ w. Within (mask w) done) found (word ∷ []) all (all_one (λ w. Within (mask w) done) word here)
 
 found_wider : (done done' : ℕ) (found : List ℕ) → Within done done' → All (λ w. Within (mask w) done) found → All (λ w. Within (mask w) done') found
@@ -55,9 +76,12 @@ module _ {K : Type 0} where
 
 module _ {B K : Type 0} (is_patch : B → K → Type 0) (done_set : B → ℕ) (key : K) where
   -- one view goes from v to w, and all else is given
-  stepped : (d d' word word' : ℕ) (homes homes' : List (m.Option (Option B))) (views : List (View K)) (id : ℕ) (v w : View K) → Turning is_patch done_set key d word homes views → get_elem? views id ≡ m.some v
-      → ((n : ℕ) → 0 < n → holds_as n w + only n (holder word) ≡ holds_as n v + only n (holder word')) → (holder word' ≡ 0 → IsHome is_patch done_set key (mask word') homes') → Within (mask word') d'
-      → ((j : ℕ) (u : View K) → j ≢ id → get_elem? views j ≡ m.some u → IsPutter (mask word') u) → IsPutter (mask word') w → Turning is_patch done_set key d' word' homes' (set views id w)
+  stepped : (d d' word word' : ℕ) (homes homes' : List (m.Option (Option B))) (views : List (View K)) (id : ℕ)
+      (v w : View K) → Turning is_patch done_set key d word homes views → get_elem? views id ≡ m.some v
+      → ((n : ℕ) → 0 < n → holds_as n w + only n (holder word) ≡ holds_as n v + only n (holder word'))
+      → (holder word' ≡ 0 → IsHome is_patch done_set key (mask word') homes') → Within (mask word') d'
+      → ((j : ℕ) (u : View K) → j ≢ id → get_elem? views j ≡ m.some u → IsPutter (mask word') u)
+      → IsPutter (mask word') w → Turning is_patch done_set key d' word' homes' (set views id w)
   stepped d d' word word' homes homes' views id v w t me busy home claimed others mine = record {
     busy = λ n h. omega (arith, total-set (holds_as n) views id v w me, t.busy n h, busy n h);
     home = home;
@@ -66,31 +90,45 @@ module _ {B K : Type 0} (is_patch : B → K → Type 0) (done_set : B → ℕ) (
   }
 
   -- a step on word 0
-  pub unturned : (d d' word : ℕ) (homes : List (m.Option (Option B))) (views : List (View K)) (id : ℕ) (v w : View K) → Turning is_patch done_set key d word homes views → get_elem? views id ≡ m.some v
+  pub unturned : (d d' word : ℕ) (homes : List (m.Option (Option B))) (views : List (View K)) (id : ℕ) (v w : View K)
+      → Turning is_patch done_set key d word homes views → get_elem? views id ≡ m.some v
       → w.holds ≡ v.holds → w.number ≡ v.number → Within d d' → IsPutter (mask word) w → Turning is_patch done_set key d' word homes (set views id w)
   unturned d d' word homes views id v w t me holds number grows mine =
-      stepped d d' word word homes homes views id v w t me (λ n h. ap (λ (x : Bool × ℕ). counted x.0 (only n x.1) + only n (holder word)) (λ i. (holds i, number i))) t.home (Within-trans (mask word) d d' t.claimed grows)
+      stepped d d' word word homes homes views id v w t me
+      (λ n h. ap (λ (x : Bool × ℕ). counted x.0 (only n x.1) + only n (holder word)) (λ i. (holds i, number i)))
+      t.home (Within-trans (mask word) d d' t.claimed grows)
       (λ j u ne e. t.each j u e) mine
 
-  pub found : (d bit word : ℕ) (homes : List (m.Option (Option B))) (views : List (View K)) (id : ℕ) (v : View K) → Turning is_patch done_set key d word homes views → get_elem? views id ≡ m.some v
+  pub found : (d bit word : ℕ) (homes : List (m.Option (Option B))) (views : List (View K)) (id : ℕ) (v : View K)
+      → Turning is_patch done_set key d word homes views → get_elem? views id ≡ m.some v
       → Turning is_patch done_set key (bit_or d bit) word homes (set views id (finding v d bit))
   found d bit word homes views id v t me = let a = t.each id v me in
-      unturned d (bit_or d bit) word homes views id v (finding v d bit) t me refl refl (λ p. omega (arith, bit_at_or d bit p)) record { holds = a.holds; puts = a.puts; found = a.found }
+      unturned d (bit_or d bit) word homes views id v (finding v d bit) t me refl refl
+      (λ p. omega (arith, bit_at_or d bit p)) record { holds = a.holds; puts = a.puts; found = a.found }
 
-  pub claimed : (d bit word : ℕ) (homes : List (m.Option (Option B))) (views : List (View K)) (id : ℕ) (v : View K) → Turning is_patch done_set key d word homes views → get_elem? views id ≡ m.some v → bit_and d bit ≡ 0
+  pub claimed : (d bit word : ℕ) (homes : List (m.Option (Option B))) (views : List (View K)) (id : ℕ) (v : View K)
+      → Turning is_patch done_set key d word homes views → get_elem? views id ≡ m.some v → bit_and d bit ≡ 0
       → Turning is_patch done_set key (bit_or d bit) word homes (set views id (claiming v d bit))
   claimed d bit word homes views id v t me unset = let a = t.each id v me in
       unturned d (bit_or d bit) word homes views id v (claiming v d bit) t me refl refl (λ p. omega (arith, bit_at_or d bit p))
       record { holds = a.holds; puts = puts_same v.claims bit (mask word) d v.puts a.puts t.claimed unset; found = a.found }
 
-  pub looked : (d word : ℕ) (homes : List (m.Option (Option B))) (views : List (View K)) (id : ℕ) (v : View K) → Turning is_patch done_set key d word homes views → get_elem? views id ≡ m.some v
+  pub looked : (d word : ℕ) (homes : List (m.Option (Option B))) (views : List (View K)) (id : ℕ) (v : View K)
+      → Turning is_patch done_set key d word homes views → get_elem? views id ≡ m.some v
       → Turning is_patch done_set key d word homes (set views id (looking v word))
   looked d word homes views id v t me = let a = t.each id v me in
-      unturned d d word homes views id v (looking v word) t me refl refl (λ p. omega arith) record { holds = a.holds; puts = a.puts; found = found_more (mask word) word v.found a.found (λ p. omega arith) }
+      unturned d d word homes views id v (looking v word) t me refl refl (λ p. omega arith)
+      record {
+        holds = a.holds;
+        puts = a.puts;
+        found = found_more (mask word) word v.found a.found (λ p. omega arith);
+      }
 
   -- the turn is taken: the slot is out
-  pub took : (d word : ℕ) (homes homes' : List (m.Option (Option B))) (views : List (View K)) (id : ℕ) (v : View K) → Turning is_patch done_set key d word homes views → get_elem? views id ≡ m.some v
-      → holder word ≡ 0 → 0 < v.number → v.holds ≡ false → Turning is_patch done_set key d (v.number * 281474976710656 + word) homes' (set views id (holding v word))
+  pub took : (d word : ℕ) (homes homes' : List (m.Option (Option B))) (views : List (View K)) (id : ℕ) (v : View K)
+      → Turning is_patch done_set key d word homes views → get_elem? views id ≡ m.some v
+      → holder word ≡ 0 → 0 < v.number → v.holds ≡ false
+      → Turning is_patch done_set key d (v.number * 281474976710656 + word) homes' (set views id (holding v word))
   took d word homes homes' views id v t me free numbered idle =
       let a = t.each id v me in
       let w : View K = holding v word in
@@ -98,7 +136,8 @@ module _ {B K : Type 0} (is_patch : B → K → Type 0) (done_set : B → ℕ) (
       let same : mask word' ≡ mask word = omega (arith, free) in
       let holds : holder word' ≡ v.number = omega (arith, free) in
       stepped d d word word' homes homes' views id v w t me
-      (λ n h. omega (arith, no n v idle, ap (only n) holds, ap (only n) free, only-other n 0 (λ e. omega arith))) (λ z. absurd (omega arith)) (subst (λ n. Within n d) (sym same) t.claimed)
+      (λ n h. omega (arith, no n v idle, ap (only n) holds, ap (only n) free, only-other n 0 (λ e. omega arith)))
+      (λ z. absurd (omega arith)) (subst (λ n. Within n d) (sym same) t.claimed)
       (λ j u ne e. subst (λ n. IsPutter n u) (sym same) (t.each j u e)) (subst (λ n. IsPutter n w) (sym same) record {
         holds = λ h. (numbered, refl);
         puts = a.puts;
@@ -106,13 +145,23 @@ module _ {B K : Type 0} (is_patch : B → K → Type 0) (done_set : B → ℕ) (
       })
 
   -- the one that holds the turn is the holder
-  holder_is : (d word : ℕ) (homes : List (m.Option (Option B))) (views : List (View K)) (id : ℕ) (v : View K) → Turning is_patch done_set key d word homes views → get_elem? views id ≡ m.some v → v.holds ≡ true → holder word ≡ v.number
+  holder_is : (d word : ℕ) (homes : List (m.Option (Option B))) (views : List (View K)) (id : ℕ) (v : View K)
+      → Turning is_patch done_set key d word homes views → get_elem? views id ≡ m.some v → v.holds ≡ true
+      → holder word ≡ v.number
   holder_is d word homes views id v t me holds =
       let n = ((t.each id v me).holds holds).0 in
-      only-one v.number (holder word) (omega (arith, t.busy v.number n, term_le (holds_as v.number) views id v me, yes v.number v holds, only-same v.number))
+      only-one v.number (holder word)
+      (omega (
+        arith,
+        t.busy v.number n,
+        term_le (holds_as v.number) views id v me,
+        yes v.number v holds,
+        only-same v.number,
+      ))
 
   -- and no other view holds it
-  idle_else : (d word : ℕ) (homes : List (m.Option (Option B))) (views : List (View K)) (id j : ℕ) (v u : View K) → Turning is_patch done_set key d word homes views → j ≢ id
+  idle_else : (d word : ℕ) (homes : List (m.Option (Option B))) (views : List (View K)) (id j : ℕ) (v u : View K)
+      → Turning is_patch done_set key d word homes views → j ≢ id
       → get_elem? views id ≡ m.some v → get_elem? views j ≡ m.some u → v.holds ≡ true → u.holds ≡ true → ⊥
   idle_else d word homes views id j v u t ne me them mine theirs =
       let same : u.number ≡ v.number = sym (holder_is d word homes views j u t them theirs) ∙ holder_is d word homes views id v t me mine in
@@ -129,8 +178,12 @@ module _ {B K : Type 0} (is_patch : B → K → Type 0) (done_set : B → ℕ) (
       )
 
   -- the turn is given back: the slot is at home
-  pub gave : (d word done : ℕ) (homes homes' : List (m.Option (Option B))) (views : List (View K)) (id : ℕ) (v : View K) → Claiming key d views → Turning is_patch done_set key d word homes views → get_elem? views id ≡ m.some v
-      → v.holds ≡ true → done < 281474976710656 → Within v.known done → Within done (bit_or v.known v.claims) → IsHome is_patch done_set key done homes' → Turning is_patch done_set key d done homes' (set views id (giving v done))
+  pub gave : (d word done : ℕ) (homes homes' : List (m.Option (Option B))) (views : List (View K)) (id : ℕ)
+      (v : View K) → Claiming key d views → Turning is_patch done_set key d word homes views
+      → get_elem? views id ≡ m.some v
+      → v.holds ≡ true → done < 281474976710656 → Within v.known done → Within done (bit_or v.known v.claims)
+      → IsHome is_patch done_set key done homes'
+      → Turning is_patch done_set key d done homes' (set views id (giving v done))
   gave d word done homes homes' views id v c t me holds small grows within home =
       let a = t.each id v me in
       let known : v.known ≡ mask word = (a.holds holds).1 in
@@ -156,10 +209,12 @@ module _ {B K : Type 0} (is_patch : B → K → Type 0) (done_set : B → ℕ) (
       })
 
   first : (i : ℕ) (v : View K) → get_elem? (first_owner key ∷ []) i ≡ m.some v → IsPutter 0 v
-  first zero v e = subst (IsPutter 0) (m.some-injective _ _ e) record { holds = λ h. absurd (true≢false (sym h)); puts = refl; found = All-nil (λ w. Within (mask w) 0) }
+  first zero v e = subst (IsPutter 0) (m.some-injective _ _ e)
+      record { holds = λ h. absurd (true≢false (sym h)); puts = refl; found = All-nil (λ w. Within (mask w) 0) }
   first (suc i) v e = absurd (m.some-ne-none v (sym e))
 
-  pub begins : (parts : B) → is_patch parts key → done_set parts ≡ 0 → Turning is_patch done_set key 0 0 (m.some (Some parts) ∷ []) (first_owner key ∷ [])
+  pub begins : (parts : B) → is_patch parts key → done_set parts ≡ 0
+      → Turning is_patch done_set key 0 0 (m.some (Some parts) ∷ []) (first_owner key ∷ [])
   begins parts patch none = record {
     busy = λ n h. sym (only-other n 0 (λ e. omega arith));
     home = λ z. record { parts = parts; here = refl; patch = patch; same = none };
@@ -167,26 +222,40 @@ module _ {B K : Type 0} (is_patch : B → K → Type 0) (done_set : B → ℕ) (
     each = first;
   }
 
-  pub dealt : (d word : ℕ) (homes : List (m.Option (Option B))) (views : List (View K)) (id : ℕ) (v : View K) → Turning is_patch done_set key d word homes views → get_elem? views id ≡ m.some v
+  pub dealt : (d word : ℕ) (homes : List (m.Option (Option B))) (views : List (View K)) (id : ℕ) (v : View K)
+      → Turning is_patch done_set key d word homes views → get_elem? views id ≡ m.some v
       → Turning is_patch done_set key d word homes (set views id (dealing v) ++ new_pass v ∷ [])
   dealt d word homes views id v t me =
       let a = t.each id v me in
-      let o = unturned d d word homes views id v (dealing v) t me refl refl (λ p. omega arith) record { holds = a.holds; puts = a.puts; found = a.found } in
+      let o = unturned d d word homes views id v (dealing v) t me refl refl (λ p. omega arith)
+      record { holds = a.holds; puts = a.puts; found = a.found } in
       record {
         busy = λ n h. omega (arith, total-append (holds_as n) (set views id (dealing v)) (new_pass v ∷ []), o.busy n h);
         home = o.home;
         claimed = o.claimed;
-        each = each_snoc (IsPutter (mask word)) (set views id (dealing v)) (new_pass v) o.each record { holds = λ h. absurd (true≢false (sym h)); puts = refl; found = All-nil (λ w. Within (mask w) (mask word)) };
+        each = each_snoc (IsPutter (mask word)) (set views id (dealing v)) (new_pass v) o.each
+            record {
+              holds = λ h. absurd (true≢false (sym h));
+              puts = refl;
+              found = All-nil (λ w. Within (mask w) (mask word));
+            };
       }
 
-  pub gathered : (d word : ℕ) (homes : List (m.Option (Option B))) (views : List (View K)) (id other : ℕ) (v w : View K) → Turning is_patch done_set key d word homes views → get_elem? views id ≡ m.some v → other ≢ id
+  pub gathered : (d word : ℕ) (homes : List (m.Option (Option B))) (views : List (View K)) (id other : ℕ)
+      (v w : View K) → Turning is_patch done_set key d word homes views → get_elem? views id ≡ m.some v → other ≢ id
       → get_elem? views other ≡ m.some w → w.holds ≡ false → Turning is_patch done_set key d word homes (set (set views id (joining v w)) other spent)
   gathered d word homes views id other v w t me ne them idle =
       let a = t.each id v me in
       let b = t.each other w them in
       let both : View K = joining v w in
       let none : View K = spent in
-      let o = unturned d d word homes views id v both t me refl refl (λ p. omega arith) record { holds = a.holds; puts = puts_both v.claims w.claims (mask word) v.puts w.puts a.puts b.puts; found = a.found } in
+      let o = unturned d d word homes views id v both t me refl refl (λ p. omega arith)
+      record {
+        holds = a.holds;
+        puts = puts_both v.claims w.claims (mask word) v.puts w.puts a.puts b.puts;
+        found = a.found;
+      } in
       let there : get_elem? (set views id both) other ≡ m.some w = set_else views id other both ne ∙ them in
-      stepped d d word word homes homes (set views id both) other w none o there (λ n h. omega (arith, no n w idle)) o.home o.claimed (λ j u far e. o.each j u e)
+      stepped d d word word homes homes (set views id both) other w none o there (λ n h. omega (arith, no n w idle))
+      o.home o.claimed (λ j u far e. o.each j u e)
       record { holds = λ h. absurd (true≢false (sym h)); puts = refl; found = All-nil (λ x. Within (mask x) (mask word)) }

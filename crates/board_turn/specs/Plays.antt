@@ -26,14 +26,16 @@ pub record Looked {S K : Type 0} (st : Step S) (m : Me S (View K)) (found : ℕ)
   pub learns : Learns m.0 found
 
 -- the seat after the turn was taken: the parts are out with it, a patch of their done set, the done mask
-pub record Took {B K : Type 0} (is_patch : B → K → Type 0) (done_set : B → ℕ) (m : Me (Option B) (View K)) (found : ℕ) (n : Me (Option B) (View K)) : Type 0 where
+pub record Took {B K : Type 0} (is_patch : B → K → Type 0) (done_set : B → ℕ) (m : Me (Option B) (View K)) (found : ℕ)
+    (n : Me (Option B) (View K)) : Type 0 where
   pub parts : B
   pub seat : n ≡ (holding m.0 found, (0, Some parts) ∷ m.1)
   pub patch : (k : K) → m.0.key ≡ Some k → is_patch parts k
   pub done : done_set parts ≡ mask found
 
 -- take the turn and the slot (compare-and-exchange of word 1)
-pub record Tried {B K : Type 0} (is_patch : B → K → Type 0) (done_set : B → ℕ) (st : Step (Option B)) (m : Me (Option B) (View K)) (found : ℕ) (n : Me (Option B) (View K)) : Type 0 where
+pub record Tried {B K : Type 0} (is_patch : B → K → Type 0) (done_set : B → ℕ) (st : Step (Option B))
+    (m : Me (Option B) (View K)) (found : ℕ) (n : Me (Option B) (View K)) : Type 0 where
   pub learns : Learns m.0 found
   pub won : found ≡ st.first → Took is_patch done_set m found n
   pub lost : found ≢ st.first → n ≡ (looking m.0 found, m.1)

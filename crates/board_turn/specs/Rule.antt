@@ -62,14 +62,16 @@ pub record IsPutter {K : Type 0} (done : ℕ) (v : View K) : Type 0 where
   pub found : All (λ word. Within (mask word) done) v.found
 
 -- the parts are at home, a patch of their done set, which is the done mask
-pub record IsHome {B K : Type 0} (is_patch : B → K → Type 0) (done_set : B → ℕ) (key : K) (done : ℕ) (homes : List (m.Option (Option B))) : Type 0 where
+pub record IsHome {B K : Type 0} (is_patch : B → K → Type 0) (done_set : B → ℕ) (key : K) (done : ℕ)
+    (homes : List (m.Option (Option B))) : Type 0 where
   pub parts : B
   pub here : get_elem? homes 0 ≡ m.some (m.some (Some parts))
   pub patch : is_patch parts key
   pub same : done_set parts ≡ done
 
 -- points 3, 4 and 5
-pub record Turning {B K : Type 0} (is_patch : B → K → Type 0) (done_set : B → ℕ) (key : K) (drawn word : ℕ) (homes : List (m.Option (Option B))) (views : List (View K)) : Type 0 where
+pub record Turning {B K : Type 0} (is_patch : B → K → Type 0) (done_set : B → ℕ) (key : K) (drawn word : ℕ)
+    (homes : List (m.Option (Option B))) (views : List (View K)) : Type 0 where
   -- 3. one view at most holds the turn. Its number is the holder, which is 0 where none holds
   pub busy : (n : ℕ) → 0 < n → total (holds_as n) views ≡ only n (holder word)
   -- 4. where none holds, the parts are at home

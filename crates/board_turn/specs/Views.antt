@@ -6,11 +6,39 @@ use Rattle.board_turn.specs.declared.view.View.{View}
 
 -- a view that has nothing, as that of a pass which was joined
 abbrev pub spent : {K : Type 0} → View K
-spent = record { key = None; leads = false; next = 0; joined = []; number = 0; claims = 0; seen = 0; twice = 0; puts = 0; holds = false; known = 0; backing = 0; found = [] }
+spent = record {
+  key = None;
+  leads = false;
+  next = 0;
+  joined = [];
+  number = 0;
+  claims = 0;
+  seen = 0;
+  twice = 0;
+  puts = 0;
+  holds = false;
+  known = 0;
+  backing = 0;
+  found = [];
+}
 
 -- the owner's view at first: it has the key, and the next number is 1
 abbrev pub first_owner : {K : Type 0} → K → View K
-first_owner key = record { key = Some key; leads = true; next = 1; joined = []; number = 0; claims = 0; seen = 0; twice = 0; puts = 0; holds = false; known = 0; backing = 0; found = [] }
+first_owner key = record {
+  key = Some key;
+  leads = true;
+  next = 1;
+  joined = [];
+  number = 0;
+  claims = 0;
+  seen = 0;
+  twice = 0;
+  puts = 0;
+  holds = false;
+  known = 0;
+  backing = 0;
+  found = [];
+}
 
 -- splitting: the owner's next number grows
 abbrev pub dealing : {K : Type 0} → View K → View K
@@ -18,7 +46,21 @@ dealing owner = record owner { next = owner.next + 1 }
 
 -- splitting: the new pass has the number and the key, and has claimed, found and put nothing
 abbrev pub new_pass : {K : Type 0} → View K → View K
-new_pass owner = record { key = owner.key; leads = false; next = 0; joined = []; number = owner.next; claims = 0; seen = 0; twice = 0; puts = 0; holds = false; known = 0; backing = 0; found = [] }
+new_pass owner = record {
+  key = owner.key;
+  leads = false;
+  next = 0;
+  joined = [];
+  number = owner.next;
+  claims = 0;
+  seen = 0;
+  twice = 0;
+  puts = 0;
+  holds = false;
+  known = 0;
+  backing = 0;
+  found = [];
+}
 
 -- joining: the owner's claims, pieces found claimed, puts and joined numbers grow by the pass's. What both had claimed is noted
 abbrev pub joining : {K : Type 0} → View K → View K → View K

@@ -1,5 +1,6 @@
 -- a number whose last zeros are taken off one by one, and its digits
-use Rattle.std.proofs.Common.{◌≡◌, ℕ, ◌+◌, ◌-◌, ◌*◌, ◌/◌, ◌%◌, ◌<◌, ◌≤◌, true, false, List, [], ◌∷◌, ◌++◌, All, length, get_or, take, refl, ap, sym, ◌∙◌, arith, ⊎_elim}
+use Rattle.std.proofs.Common.{◌≡◌, ℕ, ◌+◌, ◌-◌, ◌*◌, ◌/◌, ◌%◌, ◌<◌, ◌≤◌, true, false, List, [], ◌∷◌, ◌++◌, All, length, get_or, take}
+use Rattle.std.proofs.Common.{refl, ap, sym, ◌∙◌, arith, ⊎_elim}
 use Rattle.std.proofs.lemmas.Bool.{cases_Bool, cases_lt}
 use Rattle.std.proofs.lemmas.Bool.Decides.{nat_tests}
 use Rattle.std.proofs.lemmas.List.{take_all, take_more, length-take-le, get_or-take}
@@ -92,5 +93,6 @@ front_done ds rest k f other =
     let value : number f.front ≡ 10 * number (take n f.front) + (last - 48) = last_of f.front n long in
     let digit_last : is_zero last ≡ false = is_zero_not last (λ e. absurd (omega (arith, f.value))) in
     let kept : without_trailing_zeros ds ≡ f.front =
-    sym f.same ∙ ap without_trailing_zeros (last_split f.front n long) ∙ trailing_digit (take n f.front) last digit_last ∙ sym (last_split f.front n long) in
+    sym f.same ∙ ap without_trailing_zeros (last_split f.front n long)
+    ∙ trailing_digit (take n f.front) last digit_last ∙ sym (last_split f.front n long) in
     (rw kept f.value, rw kept f.size)

@@ -1,5 +1,6 @@
 -- the digits that are printed, and their number
-use Rattle.std.proofs.Common.{◌≡◌, ℕ, ◌+◌, ◌-◌, ◌*◌, ◌/◌, ◌%◌, ◌^◌, ◌<◌, ◌≤◌, Bool, true, false, not, ◌&&◌, List, [], ◌∷◌, ◌++◌, length, suc, zero, refl, ap, sym, ◌∙◌, append_assoc, arith, ⊎_elim}
+use Rattle.std.proofs.Common.{◌≡◌, ℕ, ◌+◌, ◌-◌, ◌*◌, ◌/◌, ◌%◌, ◌^◌, ◌<◌, ◌≤◌, Bool, true, false, not, ◌&&◌, List, [], ◌∷◌, ◌++◌, length}
+use Rattle.std.proofs.Common.{suc, zero, refl, ap, sym, ◌∙◌, append_assoc, arith, ⊎_elim}
 use Rattle.std.specs.Fmt.{decimal}
 use Rattle.std.specs.List.{fold}
 use Rattle.std.proofs.Math.Nat.{pow-suc, pow-le-pow_right, div-div-eq-div-mul, div-one}
@@ -42,7 +43,9 @@ whole_decimal = decimal_by_steps_wide Whole
 
 pub Digits-last_digits : (k n : ℕ) → Digits (last_digits k n)
 Digits-last_digits zero n = All-nil (λ (d : ℕ). is_digit d ≡ true)
-Digits-last_digits (suc k) n = All-push (λ d. is_digit d ≡ true) (last_digits k (n / 10)) (48 + n % 10) (Digits-last_digits k (n / 10)) (digit_of (n % 10) (omega arith))
+Digits-last_digits (suc k) n =
+    All-push (λ d. is_digit d ≡ true) (last_digits k (n / 10)) (48 + n % 10) (Digits-last_digits k (n / 10))
+    (digit_of (n % 10) (omega arith))
 
 pub length-last_digits : (k n : ℕ) → length (last_digits k n) ≡ k
 length-last_digits zero n = refl
@@ -56,7 +59,8 @@ number_printed (suc k) n fits =
     let same : n / 10 ^ suc k ≡ n / 10 / 10 ^ k = ap (λ p. n / p) (power_suc k) ∙ sym (div-div-eq-div-mul n 10 (10 ^ k)) in
     let front : List ℕ = decimal (n / 10 / 10 ^ k) ++ last_digits k (n / 10) in
     rw (same, ← append_assoc) (number_push (decimal (n / 10 / 10 ^ k) ++ last_digits k (n / 10)) (48 + n % 10)
-    ∙ (let before : number (decimal (n / 10 / 10 ^ k) ++ last_digits k (n / 10)) ≡ n / 10 = number_printed k (n / 10) (omega arith) in omega (arith, before)))
+    ∙ (let before : number (decimal (n / 10 / 10 ^ k) ++ last_digits k (n / 10)) ≡ n / 10 = number_printed k (n / 10)
+    (omega arith) in omega (arith, before)))
 
 zero_is : (d : ℕ) → is_zero d ≡ true → d ≡ 48
 zero_is d e = grind (arith, nat_tests)
@@ -87,7 +91,8 @@ fold-without_trailing_zeros n (d ∷ ds) = ⊎_elim
     (λ (last : (is_zero d && not (is_filled (without_trailing_zeros ds))) ≡ true).
     let parts = and_both (is_zero d) (not (is_filled (without_trailing_zeros ds))) last in
     let empty : without_trailing_zeros ds ≡ [] = empty_of (without_trailing_zeros ds) parts.1 in
-    let rest : fold then_digit (then_digit n d) ds ≡ then_digit n d * 10 ^ (length ds - 0) = rw empty at (fold-without_trailing_zeros (then_digit n d) ds) in
+    let rest : fold then_digit (then_digit n d) ds ≡ then_digit n d * 10 ^ (length ds - 0) =
+    rw empty at (fold-without_trailing_zeros (then_digit n d) ds) in
     let ten : then_digit n d ≡ 10 * n = omega (arith, zero_is d parts.0) in
     let long : suc (length ds) - 0 ≡ suc (length ds) = omega arith in
     let all : length ds - 0 ≡ length ds = omega arith in
@@ -133,7 +138,8 @@ short (d ∷ ds) digits = ⊎_elim
     (λ (few : length ds < 18). omega arith)
     (λ (many : 18 ≤ length ds).
     let least : 10 ^ 18 ≤ 10 ^ length ds = power_least (length ds) many in
-    let size : ((d - 49) + 1) * 10 ^ length ds ≤ number (d ∷ ds) = rw (← first_positive d (digits 0 0 (omega arith)) front) (large (then_digit 0 d) ds) in
+    let size : ((d - 49) + 1) * 10 ^ length ds ≤ number (d ∷ ds) =
+    rw (← first_positive d (digits 0 0 (omega arith)) front) (large (then_digit 0 d) ds) in
     absurd (omega (arith, one_le (d - 49) (10 ^ length ds) (number (d ∷ ds)) size)))
     (cases_lt (length ds) 18)))
     (cases_Bool (is_zero d))

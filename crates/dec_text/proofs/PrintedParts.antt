@@ -32,11 +32,19 @@ prefix_len-printed (w ∷ ws) fs whole part = rw (first w ws whole) (omega (arit
 
 count_by-digits : (ds : List ℕ) → Digits ds → count_by is_point ds ≡ 0
 count_by-digits [] digits = refl
-count_by-digits (d ∷ ds) digits = rw (sum_by-cons (λ x. cond (is_point x) 1 0) d ds, no_point d (first d ds digits)) (omega (arith, count_by-digits ds (Digits-tail d ds digits)))
+count_by-digits (d ∷ ds) digits =
+    rw (sum_by-cons (λ x. cond (is_point x) 1 0) d ds, no_point d (first d ds digits))
+    (omega (arith, count_by-digits ds (Digits-tail d ds digits)))
 
 count_by-printed : (ws fs : List ℕ) → Digits ws → Digits fs → count_by is_point (ws ++ 46 ∷ fs) ≡ 1
 count_by-printed ws fs whole part =
-    omega (arith, sum_by-append (λ x. cond (is_point x) 1 0) ws (46 ∷ fs), sum_by-cons (λ x. cond (is_point x) 1 0) 46 fs, count_by-digits ws whole, count_by-digits fs part)
+    omega (
+      arith,
+      sum_by-append (λ x. cond (is_point x) 1 0) ws (46 ∷ fs),
+      sum_by-cons (λ x. cond (is_point x) 1 0) 46 fs,
+      count_by-digits ws whole,
+      count_by-digits fs part,
+    )
 
 pub is_mantissa-printed : (ws fs : List ℕ) → Digits ws → Digits fs → 0 < length ws → is_mantissa (ws ++ 46 ∷ fs) ≡ true
 is_mantissa-printed [] fs whole part some = absurd (omega arith)

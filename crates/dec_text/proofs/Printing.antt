@@ -1,5 +1,6 @@
 -- one more digit at the end of what is printed
-use Rattle.std.proofs.Common.{◌≡◌, ℕ, ◌+◌, ◌-◌, ◌/◌, ◌%◌, ◌^◌, ◌<◌, ◌≤◌, suc, List, [], ◌∷◌, ◌++◌, refl, sym, subst, append_assoc, add-one, arith, ℤ, pos, negsuc, false, if◌then◌else◌}
+use Rattle.std.proofs.Common.{◌≡◌, ℕ, ◌+◌, ◌-◌, ◌/◌, ◌%◌, ◌^◌, ◌<◌, ◌≤◌, suc, List, [], ◌∷◌, ◌++◌, refl, sym, subst, append_assoc}
+use Rattle.std.proofs.Common.{add-one, arith, ℤ, pos, negsuc, false, if◌then◌else◌}
 use Rattle.std.specs.Fmt.{decimal}
 use Rattle.std.specs.Int.RustNames.{unsigned_abs as nat_abs}
 use Rattle.std.specs.Int.Signed.{lt_z}
@@ -8,15 +9,18 @@ use Rattle.std.proofs.lemmas.Fmt.{decimal_digit, decimal_step_wide}
 use Rattle.dec_text.specs.Fixed.{fixed_size, fixed_text, last_digits}
 
 last_more : (k n : ℕ) → 0 < k → last_digits k n ≡ last_digits (k - 1) (n / 10) ++ (48 + n % 10) ∷ []
-last_more k n some = let e : k ≡ suc (k - 1) = omega arith in subst (λ (j : ℕ). last_digits j n ≡ last_digits (k - 1) (n / 10) ++ (48 + n % 10) ∷ []) (sym e) refl
+last_more k n some = let e : k ≡ suc (k - 1) = omega arith in
+    subst (λ (j : ℕ). last_digits j n ≡ last_digits (k - 1) (n / 10) ++ (48 + n % 10) ∷ []) (sym e) refl
 
-pub last_pushed : (old mid new : List ℕ) (k n : ℕ) → 0 < k → mid ≡ old ++ last_digits (k - 1) (n / 10) → new ≡ mid ++ (48 + n % 10) ∷ [] → new ≡ old ++ last_digits k n
+pub last_pushed : (old mid new : List ℕ) (k n : ℕ) → 0 < k → mid ≡ old ++ last_digits (k - 1) (n / 10)
+    → new ≡ mid ++ (48 + n % 10) ∷ [] → new ≡ old ++ last_digits k n
 last_pushed old mid new k n some is_mid is_new = rw (is_new, is_mid, append_assoc, last_more k n some) refl
 
 wide : (n : ℕ) → n < 2 ^ 128 → n < 10 ^ 64
 wide n fits = omega arith
 
-pub whole_pushed : (old mid new : List ℕ) (n : ℕ) → 10 ≤ n → n < 2 ^ 128 → mid ≡ old ++ decimal (n / 10) → new ≡ mid ++ (48 + n % 10) ∷ [] → new ≡ old ++ decimal n
+pub whole_pushed : (old mid new : List ℕ) (n : ℕ) → 10 ≤ n → n < 2 ^ 128 → mid ≡ old ++ decimal (n / 10)
+    → new ≡ mid ++ (48 + n % 10) ∷ [] → new ≡ old ++ decimal n
 whole_pushed old mid new n long fits is_mid is_new = rw (is_new, is_mid, append_assoc, decimal_step_wide n long (wide n fits)) refl
 
 pub whole_digit : (old new : List ℕ) (n : ℕ) → n < 10 → new ≡ old ++ (48 + n % 10) ∷ [] → new ≡ old ++ decimal n

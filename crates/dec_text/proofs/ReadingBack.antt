@@ -1,5 +1,6 @@
 -- what was printed is read back
-use Rattle.std.proofs.Common.{◌≡◌, ℕ, ◌+◌, ◌-◌, ◌*◌, ◌/◌, ◌^◌, ◌<◌, ◌≤◌, ℤ, pos, negsuc, neg_ℤ, ◌+ℤ◌, ◌-ℤ◌, ◌≤ℤ◌, Bool, true, false, ◌==◌, List, [], ◌∷◌, ◌++◌, length, take, drop, Some, Ok, refl, ap, sym, ◌∙◌, arith, ⊎_elim, subst, suc, zero}
+use Rattle.std.proofs.Common.{◌≡◌, ℕ, ◌+◌, ◌-◌, ◌*◌, ◌/◌, ◌^◌, ◌<◌, ◌≤◌, ℤ, pos, negsuc, neg_ℤ, ◌+ℤ◌, ◌-ℤ◌, ◌≤ℤ◌, Bool, true, false, ◌==◌}
+use Rattle.std.proofs.Common.{List, [], ◌∷◌, ◌++◌, length, take, drop, Some, Ok, refl, ap, sym, ◌∙◌, arith, ⊎_elim, subst, suc, zero}
 use Rattle.std.specs.Fmt.{decimal}
 use Rattle.std.specs.Int.RustNames.{unsigned_abs}
 use Rattle.std.specs.Int.Signed.{le_z}
@@ -10,21 +11,29 @@ use Rattle.std.proofs.lemmas.Bool.Decides.{nat_tests}
 use Rattle.std.proofs.lemmas.Int.{ints}
 use Rattle.std.proofs.lemmas.List.{drop_all, take_all}
 use Rattle.dec_text.proofs.Fronts.{Digits}
-use Rattle.dec_text.proofs.PrintedDigits.{Digits-last_digits, Whole, fold-without_trailing_zeros, length-last_digits, length-without_trailing_zeros, number-without_leading_zeros, number_printed, short, whole_decimal}
+use Rattle.dec_text.proofs.PrintedDigits.{Digits-last_digits, Whole, fold-without_trailing_zeros, length-last_digits}
+use Rattle.dec_text.proofs.PrintedDigits.{length-without_trailing_zeros, number-without_leading_zeros, number_printed, short}
+use Rattle.dec_text.proofs.PrintedDigits.{whole_decimal}
 use Rattle.dec_text.proofs.PrintedParts.{filter-printed, is_mantissa-printed, places-printed, prefix_len-printed}
 use Rattle.dec_text.proofs.Scientifics.{Digits-append, scientific_none, scientific_some}
-use Rattle.dec_text.specs.Decimals.{Scientific, after_mantissa, after_sign, counted, decimal_from, decimal_of, exponent_of, is_mantissa, is_mantissa_byte, is_negative, mantissa_of, places, scientific, signed, significant, within_power, zero_decimal}
+use Rattle.dec_text.specs.Decimals.{Scientific, after_mantissa, after_sign, counted, decimal_from, decimal_of, exponent_of, is_mantissa}
+use Rattle.dec_text.specs.Decimals.{is_mantissa_byte, is_negative, mantissa_of, places, scientific, signed, significant, within_power}
+use Rattle.dec_text.specs.Decimals.{zero_decimal}
 use Rattle.dec_text.specs.Digits.{is_digit, number, without_leading_zeros, without_trailing_zeros}
 use Rattle.dec_text.specs.Fixed.{fixed_size, last_digits}
 use Rattle.dec_text.specs.ReadBack.{ReadsBack}
 use Rattle.dec_text.specs.Scaled.{rounded, scaled_value}
 
 -- a word that is a mantissa behind its sign
-word_is : (word m : List ℕ) → after_sign word ≡ m → prefix_len is_mantissa_byte m ≡ length m → decimal_of word ≡ decimal_from (is_negative word) m (Some (false, 0))
+word_is : (word m : List ℕ) → after_sign word ≡ m → prefix_len is_mantissa_byte m ≡ length m
+    → decimal_of word ≡ decimal_from (is_negative word) m (Some (false, 0))
 word_is word m is_unsigned whole =
-    let front : mantissa_of word ≡ m = ap (λ b. take (prefix_len is_mantissa_byte b) b) is_unsigned ∙ take_all (prefix_len is_mantissa_byte m) m (omega arith) in
-    let rest : after_mantissa word ≡ [] = ap (λ b. drop (prefix_len is_mantissa_byte b) b) is_unsigned ∙ drop_all (prefix_len is_mantissa_byte m) m (omega arith) in
-    ap (λ x. decimal_from (is_negative word) x (exponent_of (after_mantissa word))) front ∙ ap (λ x. decimal_from (is_negative word) m (exponent_of x)) rest
+    let front : mantissa_of word ≡ m = ap (λ b. take (prefix_len is_mantissa_byte b) b) is_unsigned
+    ∙ take_all (prefix_len is_mantissa_byte m) m (omega arith) in
+    let rest : after_mantissa word ≡ [] = ap (λ b. drop (prefix_len is_mantissa_byte b) b) is_unsigned
+    ∙ drop_all (prefix_len is_mantissa_byte m) m (omega arith) in
+    ap (λ x. decimal_from (is_negative word) x (exponent_of (after_mantissa word))) front
+    ∙ ap (λ x. decimal_from (is_negative word) m (exponent_of x)) rest
 
 no_sign : (w : ℕ) → is_digit w ≡ true → ((w == 45) ≡ false) × ((w == 43) ≡ false)
 no_sign w digit = grind (arith, nat_tests)
@@ -75,7 +84,8 @@ within x low high =
 abbrev Read : Bool → ℕ → ℕ → Type 0
 Read negative n d = (x : Scientific) × (decimal_from negative (fixed_size n d) (Some (false, 0)) ≡ Ok x) × (scaled_value x d ≡ signed negative n)
 
-good_mantissa : (negative : Bool) (m : List ℕ) → is_mantissa m ≡ true → decimal_from negative m (Some (false, 0)) ≡ within_power (scientific negative m (pos 0))
+good_mantissa : (negative : Bool) (m : List ℕ) → is_mantissa m ≡ true
+    → decimal_from negative m (Some (false, 0)) ≡ within_power (scientific negative m (pos 0))
 good_mantissa negative m good = rw good refl
 
 all_count : (n d : ℕ) (m : List ℕ) (p : Printed n d m) → take 18 (significant m) ≡ p.digits
@@ -105,7 +115,8 @@ read_parts negative n d m p positive few =
     let trimmed : length (counted m) + k ≡ length (take 18 (significant m)) =
     omega (arith, ap length is_counted, ap length (all_count n d m p), length-without_trailing_zeros p.digits) in
     let dropped : 0 ≡ length (significant m) - 18 = omega (arith, ap length p.is_significant, p.few) in
-    let exact : scientific negative m (pos 0) ≡ x = scientific_some negative m (pos 0) (number kept) k 0 (ap number is_counted) some trimmed dropped in
+    let exact : scientific negative m (pos 0) ≡ x =
+    scientific_some negative m (pos 0) (number kept) k 0 (ap number is_counted) some trimmed dropped in
     let low : negsuc 399 ≤ℤ power = omega (arith, ints, p.is_places) in
     let high : power ≤ℤ pos 400 = omega (arith, ints, p.is_places, p.few) in
     let shift : (power +ℤ pos d) ≡ pos k = omega (arith, ints, p.is_places) in (

@@ -2,7 +2,8 @@
 use Rattle.std.proofs.Common.{◌≡◌, ℕ, Bool, true, List, Option, Some, None, Result, drop, min, take, ap, ◌∙◌}
 use Rattle.std.specs.List.{prefix_len}
 use Rattle.std.specs.Option.{option_map}
-use Rattle.dec_text.specs.Decimals.{Scientific, after_sign, is_mantissa_byte, after_mantissa, decimal_from, decimal_of, exponent_of, is_mantissa, is_negative, mantissa_of, scientific, signed, within_power}
+use Rattle.dec_text.specs.Decimals.{Scientific, after_sign, is_mantissa_byte, after_mantissa, decimal_from, decimal_of, exponent_of}
+use Rattle.dec_text.specs.Decimals.{is_mantissa, is_negative, mantissa_of, scientific, signed, within_power}
 use Rattle.dec_text.specs.Significands.{capped}
 use Rattle.dec_text.specs.declared.digits.TheConstants.{CAP}
 use Rattle.dec_text.specs.declared.faults.DecimalFault.{DecimalFault}

@@ -1,5 +1,6 @@
 -- the first run of a part of a text
-use Rattle.std.proofs.Common.{◌≡◌, ℕ, ◌+◌, ◌-◌, ◌<◌, ◌≤◌, Bool, true, false, List, [], ◌∷◌, length, take, drop, suc, not, refl, ap, sym, ◌∙◌, arith, add-zero, ⊎_elim}
+use Rattle.std.proofs.Common.{◌≡◌, ℕ, ◌+◌, ◌-◌, ◌<◌, ◌≤◌, Bool, true, false, List, [], ◌∷◌, length, take, drop, suc, not, refl, ap, sym}
+use Rattle.std.proofs.Common.{◌∙◌, arith, add-zero, ⊎_elim}
 use Rattle.std.specs.List.{position_or_len, before_first, slice_range}
 use Rattle.std.proofs.lemmas.Bool.{cases_lt, cases_Bool}
 use Rattle.std.proofs.lemmas.List.{take-take, drop-take, drop-drop, drop_all}
@@ -34,7 +35,9 @@ first_run : (p : ℕ → Bool) (at : ℕ) (xs : List ℕ) → 0 < length xs → 
 first_run p at [] has = absurd (omega arith)
 first_run p at (b ∷ []) has = ⊎_elim (cut_first p at b []) (one_byte p at b) (cases_Bool (p b))
 first_run p at (b ∷ c ∷ bs) has =
-    ⊎_elim (cut_first p at b (c ∷ bs)) (λ is_byte. byte_first p at b (c ∷ bs) is_byte (first_run p (at + 1) (c ∷ bs) (omega arith))) (cases_Bool (p b))
+    ⊎_elim (cut_first p at b (c ∷ bs))
+    (λ is_byte. byte_first p at b (c ∷ bs) is_byte (first_run p (at + 1) (c ∷ bs) (omega arith)))
+    (cases_Bool (p b))
 
 slice_first : (xs : List ℕ) (at end k : ℕ) → k ≤ end - at → take k (slice_range xs at end) ≡ slice_range xs at (at + k)
 slice_first xs at end k inside = let e : at + k - at ≡ k = omega arith in rw (take-take k (end - at) (drop at xs) inside, e) refl

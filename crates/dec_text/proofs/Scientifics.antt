@@ -1,5 +1,6 @@
 -- the number that a mantissa and an exponent stand for
-use Rattle.std.proofs.Common.{◌≡◌, ℕ, ◌+◌, ◌-◌, ◌^◌, ◌<◌, ◌≤◌, ℤ, pos, negsuc, ◌+ℤ◌, ◌-ℤ◌, ◌<ℤ◌, Bool, true, false, List, [], ◌∷◌, ◌++◌, ◌⊎◌, length, take, min, suc, refl, sym, ◌∙◌, arith, inl, inr, ⊎_elim, Err}
+use Rattle.std.proofs.Common.{◌≡◌, ℕ, ◌+◌, ◌-◌, ◌^◌, ◌<◌, ◌≤◌, ℤ, pos, negsuc, ◌+ℤ◌, ◌-ℤ◌, ◌<ℤ◌, Bool, true, false, List, [], ◌∷◌, ◌++◌}
+use Rattle.std.proofs.Common.{◌⊎◌, length, take, min, suc, refl, sym, ◌∙◌, arith, inl, inr, ⊎_elim, Err}
 use Rattle.std.specs.Int.Signed.{le_z}
 use Rattle.std.specs.List.{filter, fold}
 use Rattle.std.proofs.lemmas.Bool.{cases_Bool, cases_lt}
@@ -42,7 +43,8 @@ leads : (ds : List ℕ) → Digits ds → (without_leading_zeros ds ≡ []) ⊎ 
 leads [] digits = inl refl
 leads (d ∷ ds) digits = ⊎_elim
     (λ (zero_front : is_zero d ≡ true). rw zero_front (leads ds (Digits-tail d ds digits)))
-    (λ (front : is_zero d ≡ false). rw front (inr (omega (arith, grows (then_digit 0 d) (take 17 ds), digit_not_zero d (digits 0 0 (omega arith)) front))))
+    (λ (front : is_zero d ≡ false). rw front
+    (inr (omega (arith, grows (then_digit 0 d) (take 17 ds), digit_not_zero d (digits 0 0 (omega arith)) front))))
     (cases_Bool (is_zero d))
 
 -- a number of no digits is 0
@@ -85,12 +87,14 @@ past true size lowered raised over low high = inl (omega (arith, ints))
 past false size lowered raised over low high = inr (omega (arith, ints))
 
 -- exponents that are not told apart are past it
-pub power_capped : (negative : Bool) (digits : ℕ) (s : Bool) (size small lowered raised : ℕ) → small ≡ min CAP size → lowered < 2 ^ 64 → raised < 2 ^ 65
+pub power_capped : (negative : Bool) (digits : ℕ) (s : Bool) (size small lowered raised : ℕ) → small ≡ min CAP size
+    → lowered < 2 ^ 64 → raised < 2 ^ 65
     → within_power (record { negative = negative; digits = digits; power = (signed s small -ℤ pos lowered) +ℤ pos raised })
     ≡ within_power (record { negative = negative; digits = digits; power = (signed s size -ℤ pos lowered) +ℤ pos raised })
 power_capped negative digits s size small lowered raised capped low high = ⊎_elim
     (λ (over : CAP < size).
-    far_power negative digits _ (past s small lowered raised (omega arith) low high) ∙ sym (far_power negative digits _ (past s size lowered raised (omega arith) low high)))
+    far_power negative digits _ (past s small lowered raised (omega arith) low high)
+    ∙ sym (far_power negative digits _ (past s size lowered raised (omega arith) low high)))
     (λ (under : size ≤ CAP). let same : small ≡ size = omega arith in rw same refl)
     (cases_lt CAP size)
 

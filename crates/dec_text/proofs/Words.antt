@@ -31,7 +31,8 @@ line_joins text lines number (s ∷ ss) rest =
 -- the lines so far, this one and those that are still to come
 pub line_pushed : (text : List ℕ) (lines : List Line) (number : ℕ) (words : List Span) (line : Run) (rest : List Run) (left whole : List WordLine)
     → map (run_at text) words ≡ words_of line → left ≡ lines_from number (line ∷ rest) → map (line_at text) lines ++ left ≡ whole
-    → map (line_at text) (lines ++ (if is_filled words then record { number = number; words = words } ∷ [] else [])) ++ lines_from (number + 1) rest ≡ whole
+    → map (line_at text) (lines ++ (if is_filled words then record { number = number; words = words } ∷ [] else []))
+    ++ lines_from (number + 1) rest ≡ whole
 line_pushed text lines number words line rest left whole is_words is_left before =
     let next : left ≡ with_line number (map (run_at text) words) (lines_from (number + 1) rest) =
     is_left ∙ ap (λ ws. with_line number ws (lines_from (number + 1) rest)) (sym is_words) in

@@ -1,4 +1,6 @@
-use Rattle.std.specs.Prelude.{neg_ℤ, ◌≡◌, ◌^◌, ◌%◌, ◌<◌, ◌≤ℤ◌, ◌-◌, ◌==◌, ◌&&◌, ◌||◌, ℕ, ℤ, pos, negsuc, ◌+ℤ◌, ◌-ℤ◌, Bool, false, if◌then◌else◌, List, [], ◌∷◌, length, take, drop, filter, nat_le, Option, Some, None, Result, Ok, Err, count_by}
+use Rattle.std.specs.Prelude.{neg_ℤ, ◌≡◌, ◌^◌, ◌%◌, ◌<◌, ◌≤ℤ◌, ◌-◌, ◌==◌, ◌&&◌, ◌||◌, ℕ, ℤ, pos, negsuc, ◌+ℤ◌, ◌-ℤ◌, Bool, false}
+use Rattle.std.specs.Prelude.{if◌then◌else◌, List, [], ◌∷◌, length, take, drop, filter, nat_le, Option, Some, None, Result, Ok, Err}
+use Rattle.std.specs.Prelude.{count_by}
 use Rattle.std.specs.Int.Signed.{le_z}
 use Rattle.std.specs.List.{after_first, list_any, prefix_len, take_while}
 use Rattle.dec_text.specs.Digits.{is_digit, are_digits, number, without_leading_zeros, without_trailing_zeros}

@@ -4,7 +4,7 @@ ghost use Rattle.dec_text.specs.Bytes.{is_blank, is_comment_mark, is_line_feed};
 ghost use Rattle.dec_text.specs.Lines.{filled, is_filled, lines_of, run, runs, word_lines, words_of};
 ghost use Rattle.dec_text.specs.Spans.{AreWithin, IsWithin, line_at, plain_line_at, run_at};
 
-use kmc_base::{Items, OutOfMemory};
+use kmc_base::{Sequence, OutOfMemory};
 use std::alloc::Global;
 
 /// The place of a word in a text, by its bytes counted from 0.
@@ -36,7 +36,7 @@ pub struct Line {
     /// The number of the line in its text, from 1; lines without a word count too.
     pub number: u32,
     /// Its words, from left to right.
-    pub words: Items<Span>,
+    pub words: Sequence<Span>,
 }
 
 /// Gives the lines of a text that have a word, in order, with the place of each word.
@@ -70,7 +70,7 @@ fn push_line(lines: &mut Vec<Line>, number: u32, words: Vec<Span>) -> Result<(),
     if !words.is_empty() {
         lines.push(Line {
             number,
-            words: Items::new(words),
+            words: Sequence::new(words),
         })?;
     }
     Ok(())

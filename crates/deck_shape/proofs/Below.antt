@@ -5,7 +5,8 @@ use Rattle.dec_text.specs.Lines.{WordLine}
 use Rattle.deck_shape.specs.LineFaults.{closes_file, fault_at, read_below}
 use Rattle.deck_shape.specs.Reading.{SoFar, after_line, read_after}
 
-pub read_after-last : (first : SoFar) (above : List WordLine) (line : WordLine) → read_after first (above ++ line ∷ []) ≡ after_line line (read_after first above)
+pub read_after-last : (first : SoFar) (above : List WordLine) (line : WordLine)
+    → read_after first (above ++ line ∷ []) ≡ after_line line (read_after first above)
 read_after-last first [] line = refl
 read_after-last first (x ∷ above) line = read_after-last (after_line x first) above line
 
@@ -15,7 +16,8 @@ passed : (first : SoFar) (above : List WordLine) (line : WordLine) (lines : List
 passed first above line lines count none goes_on = rw (none, goes_on) refl
 
 -- what is above may as well be read before
-from_above : (first : SoFar) (above lines : List WordLine) (count : ℕ) → read_below first above lines count ≡ read_below (read_after first above) [] lines count
+from_above : (first : SoFar) (above lines : List WordLine) (count : ℕ)
+    → read_below first above lines count ≡ read_below (read_after first above) [] lines count
 from_above first above [] count = refl
 from_above first above (line ∷ lines) count =
     let so_far = read_after first above in

@@ -9,8 +9,9 @@ use Rattle.deck_shape.specs.LineFaults.{block_of_text, closes, is_outermost, lin
 use Rattle.deck_shape.specs.LineWords.{head_of}
 use Rattle.deck_shape.specs.Reading.{SoFar, after_word, argument_of, block_of, first_block, lattice_block, nothing_read, rule_at}
 use Rattle.deck_shape.specs.Tables.{rule_for, rules_of, same_word}
-use Rattle.deck_shape.specs.declared.table.BlockKind.{BlockKind}
-use Rattle.deck_shape.specs.declared.table.BlockKind.TheVariants.{Simulation, LatticeFile, DefaultChoice, PeriodicCell, Explicit, NeighboringStructure, LatticeStructure}
+use Rattle.deck_shape.specs.declared.table.BlockForm.{BlockForm}
+use Rattle.deck_shape.specs.declared.table.BlockForm.TheVariants.{Simulation, LatticeFile, DefaultChoice, PeriodicCell, Explicit}
+use Rattle.deck_shape.specs.declared.table.BlockForm.TheVariants.{NeighboringStructure, LatticeStructure}
 use Rattle.deck_shape.specs.declared.table.Role.{Role}
 use Rattle.deck_shape.specs.declared.table.Role.TheVariants.{Value, Rows, Encloses, BeginsLattice, Closes, Unsupported}
 use Rattle.deck_shape.specs.declared.table.Rule.{Rule}
@@ -18,7 +19,7 @@ use Rattle.deck_shape.specs.WholeBlocks.{IsLatticeKind}
 use Rattle.deck_shape.proofs.ReadBlocks.{outermost, read_has, role_of, rule_in}
 
 -- the block of a lattice file, opened or not
-abbrev pub IsFileKind : BlockKind → Type 0
+abbrev pub IsFileKind : BlockForm → Type 0
 IsFileKind LatticeFile = Unit {0}
 IsFileKind DefaultChoice = Unit {0}
 IsFileKind PeriodicCell = Unit {0}
@@ -27,14 +28,18 @@ IsFileKind Simulation = ⊥
 IsFileKind NeighboringStructure = ⊥
 IsFileKind LatticeStructure = ⊥
 
-one_of : (a b c : Bool) (kind : BlockKind) → IsFileKind kind → IsFileKind (unwrap_or (if a then Some DefaultChoice else (if b then Some PeriodicCell else (if c then Some Explicit else None))) kind)
+one_of : (a b c : Bool) (kind : BlockForm) → IsFileKind kind
+    → IsFileKind (unwrap_or
+    (if a then Some DefaultChoice else (if b then Some PeriodicCell else (if c then Some Explicit else None))) kind)
 one_of true b c kind is = tt
 one_of false true c kind is = tt
 one_of false false true kind is = tt
 one_of false false false kind is = is
 
-opened : (word : List ℕ) (kind : BlockKind) → IsFileKind kind → IsFileKind (unwrap_or (lattice_block word) kind)
-opened word kind is = one_of (same_word (codes "default_choice") word) (same_word (codes "periodic_cell") word) (same_word (codes "explicit") word) kind is
+opened : (word : List ℕ) (kind : BlockForm) → IsFileKind kind → IsFileKind (unwrap_or (lattice_block word) kind)
+opened word kind is =
+    one_of (same_word (codes "default_choice") word) (same_word (codes "periodic_cell") word)
+    (same_word (codes "explicit") word) kind is
 
 lattice_word : (so_far : SoFar) (line : WordLine) → IsFileKind so_far.block.kind → (role : Role) → IsFileKind (after_word line so_far role).block.kind
 lattice_word so_far line is Value = is
@@ -45,8 +50,10 @@ lattice_word so_far line is Closes = is
 lattice_word so_far line is Unsupported = is
 
 -- a lattice file has no closing word before its block is opened
-closing_kind : (kind : BlockKind) (word : List ℕ) (rule : Rule) → IsFileKind kind → rule_for kind word ≡ Some rule → closes rule.role ≡ true → IsLatticeKind kind
-closing_kind LatticeFile word rule is found closing = absurd (false≢true (sym (role_of (λ r. closes r.role ≡ false) LatticeFile word rule (refl, tt) found) ∙ closing))
+closing_kind : (kind : BlockForm) (word : List ℕ) (rule : Rule) → IsFileKind kind → rule_for kind word ≡ Some rule
+    → closes rule.role ≡ true → IsLatticeKind kind
+closing_kind LatticeFile word rule is found closing =
+    absurd (false≢true (sym (role_of (λ r. closes r.role ≡ false) LatticeFile word rule (refl, tt) found) ∙ closing))
 closing_kind DefaultChoice word rule is found closing = tt
 closing_kind PeriodicCell word rule is found closing = tt
 closing_kind Explicit word rule is found closing = tt
@@ -55,7 +62,8 @@ closing_kind NeighboringStructure word rule is found closing = is
 closing_kind LatticeStructure word rule is found closing = is
 
 -- the block of a lattice file is that of a lattice
-pub lattice_kind : (kind : BlockKind) (text : List ℕ) (block : BlockLines) → first_block Lattice ≡ Some kind → block_of_text kind text ≡ Ok block → IsLatticeKind block.kind
+pub lattice_kind : (kind : BlockForm) (text : List ℕ) (block : BlockLines) → first_block Lattice ≡ Some kind
+    → block_of_text kind text ≡ Ok block → IsLatticeKind block.kind
 lattice_kind kind text block begins is =
     let first : kind ≡ LatticeFile = (let e : Some kind ≡ Some LatticeFile = sym begins in cc) in
     read_has (λ so_far. IsFileKind so_far.block.kind) (λ whole. IsLatticeKind whole.kind)
@@ -89,10 +97,13 @@ plain_word so_far line is BeginsLattice plain = absurd plain
 plain_word so_far line is Closes plain = (is.0, refl)
 plain_word so_far line is Unsupported plain = is
 
-simulation_word : (so_far : SoFar) (line : WordLine) (rule : Rule) → IsSimulation so_far → rule_at so_far line ≡ Some rule → IsSimulation (after_word line so_far rule.role)
+simulation_word : (so_far : SoFar) (line : WordLine) (rule : Rule) → IsSimulation so_far
+    → rule_at so_far line ≡ Some rule → IsSimulation (after_word line so_far rule.role)
 simulation_word so_far line rule is rule_is =
     let same : block_of so_far ≡ Simulation = outermost so_far.below so_far.block.kind is.1 ∙ is.0 in
-    plain_word so_far line is rule.role (role_of (λ r. IsPlain r.role) Simulation (head_of line) rule all_plain (rule_in so_far line rule Simulation same rule_is))
+    plain_word so_far line is rule.role
+    (role_of (λ r. IsPlain r.role) Simulation (head_of line) rule all_plain
+    (rule_in so_far line rule Simulation same rule_is))
 
 -- the block of the simulation file is that file's
 pub simulation_kind : (text : List ℕ) (block : BlockLines) → block_of_text Simulation text ≡ Ok block → block.kind ≡ Simulation

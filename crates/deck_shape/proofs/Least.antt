@@ -9,7 +9,8 @@ lesser_none (Some a) = refl
 
 -- the three comparisons of three numbers
 chosen : (ab bc ac : Bool) (a b c : ℕ) → (ab ≡ true → bc ≡ true → ac ≡ true) → (ab ≡ false → bc ≡ false → ac ≡ false)
-    → (if ab then (if ac then Some a else Some c) else (if bc then Some b else Some c)) ≡ (if bc then (if ab then Some a else Some b) else (if ac then Some a else Some c))
+    → (if ab then (if ac then Some a else Some c) else (if bc then Some b else Some c))
+    ≡ (if bc then (if ab then Some a else Some b) else (if ac then Some a else Some c))
 chosen true true ac a b c up down = rw (up refl refl) refl
 chosen true false ac a b c up down = refl
 chosen false true ac a b c up down = refl

@@ -1,5 +1,6 @@
 -- searches of the values of a list
-use Rattle.std.proofs.Common.{◌≡◌, ◌∙◌, true, false, cond, IfSome, ◌||◌, ap, Bor, Option, None, Some, is_some, Bool, List, [], ◌∷◌, get_or, map, refl, ⊎_elim}
+use Rattle.std.proofs.Common.{◌≡◌, ◌∙◌, true, false, cond, IfSome, ◌||◌, ap, Bor, Option, None, Some, is_some, Bool, List, [], ◌∷◌}
+use Rattle.std.proofs.Common.{get_or, map, refl, ⊎_elim}
 use Rattle.std.specs.List.{AllByRecursion, find, list_any}
 use Rattle.std.specs.Option.{option_copied, option_map}
 use Rattle.std.proofs.lemmas.Bool.{cases_Bool}

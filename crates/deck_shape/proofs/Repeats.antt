@@ -1,5 +1,6 @@
 -- names that are looked up among those before them
-use Rattle.std.proofs.Common.{◌≡◌, ◌∙◌, sym, ap, ℕ, ◌&&◌, ◌||◌, ◌+◌, ◌<◌, Bool, true, false, List, [], ◌∷◌, ◌++◌, add-one, cond, Bor, drop, get_or, length, map, nat_cmp, eqb, take, inl, inr, refl, arith}
+use Rattle.std.proofs.Common.{◌≡◌, ◌∙◌, sym, ap, ℕ, ◌&&◌, ◌||◌, ◌+◌, ◌<◌, Bool, true, false, List, [], ◌∷◌, ◌++◌, add-one, cond, Bor}
+use Rattle.std.proofs.Common.{drop, get_or, length, map, nat_cmp, eqb, take, inl, inr, refl, arith}
 use Rattle.std.proofs.Math.Seq.{take-suc}
 use Rattle.std.specs.BTreeMap.{is_at}
 use Rattle.std.specs.BTreeSet.{BTreeSet, contains}
@@ -18,7 +19,8 @@ use Rattle.deck_shape.specs.Tables.{same_word}
 abbrev pub word_cmp : Bor (List ℕ) → Bor (List ℕ) → Ordering
 word_cmp a b = slice_cmp nat_cmp a.now b.now
 
-first_bytes : (o : Ordering) (b : Bool) (rest : Ordering) (others : Bool) → is_eq o ≡ b → is_eq rest ≡ others → is_eq (ordering_then o rest) ≡ (b && others)
+first_bytes : (o : Ordering) (b : Bool) (rest : Ordering) (others : Bool) → is_eq o ≡ b → is_eq rest ≡ others
+    → is_eq (ordering_then o rest) ≡ (b && others)
 first_bytes Less b rest others is same = ap (λ t. t && others) is
 first_bytes Equal b rest others is same = same ∙ ap (λ t. t && others) is
 first_bytes Greater b rest others is same = ap (λ t. t && others) is
@@ -48,18 +50,23 @@ crossed false false c d = refl
 
 any_pushed : {X : Type 0} (p : X → Bool) (xs : List X) (x : X) → list_any p (xs ++ x ∷ []) ≡ (list_any p xs || p x)
 any_pushed p [] x = or_false (p x)
-any_pushed p (y ∷ xs) x = elim (p y) as (λ b. (b || list_any p (xs ++ x ∷ [])) ≡ ((b || list_any p xs) || p x)) [ true ↦ refl | false ↦ any_pushed p xs x ]
+any_pushed p (y ∷ xs) x =
+    elim (p y) as (λ b. (b || list_any p (xs ++ x ∷ [])) ≡ ((b || list_any p xs) || p x))
+    [ true ↦ refl | false ↦ any_pushed p xs x ]
 
 any_further : {X : Type 0} (p : X → Bool) (xs more : List X) → list_any p xs ≡ true → list_any p (xs ++ more) ≡ true
 any_further p [] more is = absurd (cc)
-any_further p (x ∷ xs) more is = elim (or_cases (p x) (list_any p xs) is) [ inl here ↦ or_left _ _ here | inr later ↦ or_right _ _ (any_further p xs more later) ]
+any_further p (x ∷ xs) more is =
+    elim (or_cases (p x) (list_any p xs) is)
+    [ inl here ↦ or_left _ _ here | inr later ↦ or_right _ _ (any_further p xs more later) ]
 
 -- the set has these words
 abbrev pub HasSeen : List (List ℕ) → BTreeSet (Bor (List ℕ)) → Type 0
 HasSeen words seen = (q : Bor (List ℕ)) → contains word_cmp seen q ≡ list_any (λ word. same_word word q.now) words
 
 pub seen_more : (words : List (List ℕ)) (word : Bor (List ℕ)) (old new : BTreeSet (Bor (List ℕ)))
-    → ((q : Bor (List ℕ)) → contains word_cmp new q ≡ cond (is_at (word_cmp word) q) true (contains word_cmp old q)) → HasSeen words old → HasSeen (words ++ word.now ∷ []) new
+    → ((q : Bor (List ℕ)) → contains word_cmp new q ≡ cond (is_at (word_cmp word) q) true (contains word_cmp old q))
+    → HasSeen words old → HasSeen (words ++ word.now ∷ []) new
 seen_more words word old new updates seen q =
     updates q
     ∙ ap (λ b. cond b true (contains word_cmp old q)) (same_key word.now q.now)
@@ -68,7 +75,8 @@ seen_more words word old new updates seen q =
     ∙ sym (any_pushed (λ w. same_word w q.now) words word.now)
 
 -- names repeat where those before do, or the last is among them
-pub repeat_pushed : (words : List (List ℕ)) (word : List ℕ) → names_repeat (words ++ word ∷ []) ≡ (names_repeat words || list_any (λ w. same_word w word) words)
+pub repeat_pushed : (words : List (List ℕ)) (word : List ℕ)
+    → names_repeat (words ++ word ∷ []) ≡ (names_repeat words || list_any (λ w. same_word w word) words)
 repeat_pushed [] word = refl
 repeat_pushed (w ∷ words) word =
     ap (λ b. b || names_repeat (words ++ word ∷ [])) (any_pushed (same_word w) words word)
@@ -85,7 +93,8 @@ repeat_further (w ∷ words) more is =
     ]
 
 -- one name more
-module _ {X : Type 0} (h : X → List ℕ) (names : List X) (i : ℕ) (d : X) (word : List ℕ) (here : i < length names) (is : word ≡ h (get_or names i d)) where
+module _ {X : Type 0} (h : X → List ℕ) (names : List X) (i : ℕ) (d : X) (word : List ℕ) (here : i < length names)
+    (is : word ≡ h (get_or names i d)) where
   pub next_name : map h (take (i + 1) names) ≡ map h (take i names) ++ word ∷ []
   next_name =
       ap (λ j. map h (take j names)) (add-one i)
@@ -93,7 +102,8 @@ module _ {X : Type 0} (h : X → List ℕ) (names : List X) (i : ℕ) (d : X) (w
       ∙ map-append h (take i names) (get_or names i d ∷ [])
       ∙ ap (λ w. map h (take i names) ++ w ∷ []) (sym is)
 
-  last_name : names_repeat (map h (take (i + 1) names)) ≡ (names_repeat (map h (take i names)) || list_any (λ w. same_word w word) (map h (take i names)))
+  last_name : names_repeat (map h (take (i + 1) names))
+      ≡ (names_repeat (map h (take i names)) || list_any (λ w. same_word w word) (map h (take i names)))
   last_name = ap names_repeat next_name ∙ repeat_pushed (map h (take i names)) word
 
   pub repeat_found : list_any (λ w. same_word w word) (map h (take i names)) ≡ true → names_repeat (map h names) ≡ true
@@ -102,5 +112,7 @@ module _ {X : Type 0} (h : X → List ℕ) (names : List X) (i : ℕ) (d : X) (w
       ∙ ap names_repeat (map-append h (take (i + 1) names) (drop (i + 1) names))
       ∙ repeat_further (map h (take (i + 1) names)) (map h (drop (i + 1) names)) (last_name ∙ or_right _ _ among)
 
-  pub repeat_passed : names_repeat (map h (take i names)) ≡ false → list_any (λ w. same_word w word) (map h (take i names)) ≡ false → names_repeat (map h (take (i + 1) names)) ≡ false
+  pub repeat_passed : names_repeat (map h (take i names)) ≡ false
+      → list_any (λ w. same_word w word) (map h (take i names)) ≡ false
+      → names_repeat (map h (take (i + 1) names)) ≡ false
   repeat_passed none new = last_name ∙ ap (λ b. b || list_any (λ w. same_word w word) (map h (take i names))) none ∙ new

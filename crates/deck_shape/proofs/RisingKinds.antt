@@ -1,5 +1,6 @@
 -- of kinds that rise, the first that holds is the least
-use Rattle.std.proofs.Common.{◌≡◌, ◌∙◌, ◌&&◌, ap, sym, not, is_none, ℕ, ◌≤◌, Bool, true, false, List, [], ◌∷◌, Option, None, Some, IfSome, if◌then◌else◌, nat_le, refl, arith}
+use Rattle.std.proofs.Common.{◌≡◌, ◌∙◌, ◌&&◌, ap, sym, not, is_none, ℕ, ◌≤◌, Bool, true, false, List, [], ◌∷◌, Option, None, Some, IfSome}
+use Rattle.std.proofs.Common.{if◌then◌else◌, nat_le, refl, arith}
 use Rattle.std.specs.List.{AllByRecursion}
 use Rattle.std.specs.Option.{option_map_or}
 use Rattle.std.proofs.lemmas.Bool.{le-leb}
@@ -17,13 +18,15 @@ abbrev pub Rise : List (Bool × ℕ) → Type 0
 Rise [] = Unit {0}
 Rise (fault ∷ faults) = AllByRecursion (λ other. fault.1 ≤ other.1) faults × Rise faults
 
-lesser_is_above : (bound kind : ℕ) (other : Option ℕ) → bound ≤ kind → IfSome other (λ least. bound ≤ least) → IfSome (lesser (Some kind) other) (λ least. bound ≤ least)
+lesser_is_above : (bound kind : ℕ) (other : Option ℕ) → bound ≤ kind → IfSome other (λ least. bound ≤ least)
+    → IfSome (lesser (Some kind) other) (λ least. bound ≤ least)
 lesser_is_above bound kind None here above = here
 lesser_is_above bound kind (Some least) here above =
     elim (nat_le kind least) as (λ t. IfSome (if t then Some kind else Some least) (λ least. bound ≤ least)) [ true ↦ here | false ↦ above ]
 
 -- what is at most every kind is at most the least of those that hold
-least_is_above : (bound : ℕ) (faults : List (Bool × ℕ)) → AllByRecursion (λ other. bound ≤ other.1) faults → IfSome (least_kind faults) (λ least. bound ≤ least)
+least_is_above : (bound : ℕ) (faults : List (Bool × ℕ)) → AllByRecursion (λ other. bound ≤ other.1) faults
+    → IfSome (least_kind faults) (λ least. bound ≤ least)
 least_is_above bound [] all = tt
 least_is_above bound (fault ∷ faults) all =
     elim fault.0 as (λ t. IfSome (lesser (fault_if t fault.1) (least_kind faults)) (λ least. bound ≤ least))
@@ -43,10 +46,24 @@ first_is_least (fault ∷ faults) rise =
 rise : (stray unknown : Bool) (so_far : SoFar) (line : WordLine) (rule : Option Rule)
     → Rise ((stray, STRAY_ROW) ∷ (unknown, UNKNOWN_WORD) ∷ option_map_or (rule_faults so_far line) rule [])
 rise stray unknown so_far line None = ((omega arith, tt), (tt, tt))
-rise stray unknown so_far line (Some rule) = ((omega arith, (omega arith, (omega arith, (omega arith, (omega arith, (omega arith, tt)))))), ((omega arith, (omega arith, (omega arith, (omega arith, (omega arith, tt))))), ((omega arith, (omega arith, (omega arith, (omega arith, tt)))), ((omega arith, (omega arith, (omega arith, tt))), ((omega arith, (omega arith, tt)), ((omega arith, tt), (tt, tt)))))))
+rise stray unknown so_far line (Some rule) = (
+  (omega arith, (omega arith, (omega arith, (omega arith, (omega arith, (omega arith, tt)))))),
+  (
+    (omega arith, (omega arith, (omega arith, (omega arith, (omega arith, tt))))),
+    (
+      (omega arith, (omega arith, (omega arith, (omega arith, tt)))),
+      (
+        (omega arith, (omega arith, (omega arith, tt))),
+        ((omega arith, (omega arith, tt)), ((omega arith, tt), (tt, tt))),
+      ),
+    ),
+  ),
+)
 
 pub kinds_in_order : (so_far : SoFar) (line : WordLine) → first_kind (line_faults so_far line) ≡ least_kind (line_faults so_far line)
-kinds_in_order so_far line = first_is_least (line_faults so_far line) (rise (is_stray_row so_far line) (is_unknown so_far line) so_far line (rule_at so_far line))
+kinds_in_order so_far line =
+    first_is_least (line_faults so_far line)
+    (rise (is_stray_row so_far line) (is_unknown so_far line) so_far line (rule_at so_far line))
 
 passed_two : (a b : Bool) (i j : ℕ) (faults : List (Bool × ℕ)) → a ≡ false → b ≡ false → first_kind faults ≡ first_kind ((a, i) ∷ (b, j) ∷ faults)
 passed_two a b i j faults no_a no_b = rw (no_a, no_b) refl
@@ -56,7 +73,8 @@ pub rule_kind_least : (so_far : SoFar) (line : WordLine) (rule : Rule) → is_ro
     → first_kind (rule_faults so_far line rule) ≡ least_kind (line_faults so_far line)
 rule_kind_least so_far line rule no_row is =
     ap (λ r. first_kind (option_map_or (rule_faults so_far line) r [])) (sym is)
-    ∙ passed_two (is_stray_row so_far line) (is_unknown so_far line) STRAY_ROW UNKNOWN_WORD (option_map_or (rule_faults so_far line) (rule_at so_far line) [])
+    ∙ passed_two (is_stray_row so_far line) (is_unknown so_far line) STRAY_ROW UNKNOWN_WORD
+    (option_map_or (rule_faults so_far line) (rule_at so_far line) [])
     (ap (λ row. row && not (takes_rows so_far.below)) no_row)
     (ap (λ r. not (is_row line) && is_none r) is ∙ ap (λ row. not row && false) no_row)
     ∙ kinds_in_order so_far line

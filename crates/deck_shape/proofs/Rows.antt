@@ -19,6 +19,7 @@ pub row_pushed : (text : List ℕ) (row : Line) (before : List Item) (item : Ite
     ≡ with_row (line_at text row) (map (item_at text) (before ++ item ∷ []))
 row_pushed text row before item =
     map-append (item_at text) before (record { line = item.line; rows = item.rows ++ row ∷ [] } ∷ [])
-    ∙ ap (λ rows. map (item_at text) before ++ record { line = line_at text item.line; rows = rows } ∷ []) (map-append (line_at text) item.rows (row ∷ []))
+    ∙ ap (λ rows. map (item_at text) before ++ record { line = line_at text item.line; rows = rows } ∷ [])
+    (map-append (line_at text) item.rows (row ∷ []))
     ∙ sym (with_row-last (line_at text row) (map (item_at text) before) (item_at text item))
     ∙ ap (with_row (line_at text row)) (sym (map-append (item_at text) before (item ∷ [])))

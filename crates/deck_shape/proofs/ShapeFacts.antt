@@ -6,15 +6,18 @@ use Rattle.std.proofs.lemmas.Bool.{false≢true, not-false}
 use Rattle.dec_text.specs.Lines.{WordLine, word_lines}
 use Rattle.deck_shape.proofs.RisingKinds.{kinds_in_order}
 use Rattle.deck_shape.specs.Blocks.{BlockLines, ItemLines, with_row}
-use Rattle.deck_shape.specs.LineFaults.{block_of_text, closes, fault_at, first_kind, has_other_count, is_missing, is_repeated, is_stray_row, is_unknown, is_unsupported, line_count, misses_word, names_no_lattice, rule_faults}
+use Rattle.deck_shape.specs.LineFaults.{block_of_text, closes, fault_at, first_kind, has_other_count, is_missing, is_repeated}
+use Rattle.deck_shape.specs.LineFaults.{is_stray_row, is_unknown, is_unsupported, line_count, misses_word, names_no_lattice, rule_faults}
 use Rattle.deck_shape.specs.LineWords.{arguments_of, head_of}
 use Rattle.deck_shape.specs.Reading.{SoFar, after_word, block_of, nothing_read, rule_at}
 use Rattle.deck_shape.specs.Tables.{allows, rule_for, rules_of}
-use Rattle.deck_shape.specs.declared.kind.TheConstants.{ARGUMENT_COUNT, MISSING_WORD, REPEATED_WORD, STRAY_ROW, UNKNOWN_LATTICE, UNKNOWN_WORD, UNSUPPORTED_WORD}
+use Rattle.deck_shape.specs.declared.kind.TheConstants.{ARGUMENT_COUNT, MISSING_WORD, REPEATED_WORD, STRAY_ROW, UNKNOWN_LATTICE}
+use Rattle.deck_shape.specs.declared.kind.TheConstants.{UNKNOWN_WORD, UNSUPPORTED_WORD}
 use Rattle.deck_shape.specs.declared.reading.Below.{Below}
 use Rattle.deck_shape.specs.declared.reading.Below.TheVariants.{Words, Rows, Enclosed}
-use Rattle.deck_shape.specs.declared.table.BlockKind.{BlockKind}
-use Rattle.deck_shape.specs.declared.table.BlockKind.TheVariants.{Simulation, LatticeFile, DefaultChoice, PeriodicCell, Explicit, NeighboringStructure, LatticeStructure}
+use Rattle.deck_shape.specs.declared.table.BlockForm.{BlockForm}
+use Rattle.deck_shape.specs.declared.table.BlockForm.TheVariants.{Simulation, LatticeFile, DefaultChoice, PeriodicCell, Explicit}
+use Rattle.deck_shape.specs.declared.table.BlockForm.TheVariants.{NeighboringStructure, LatticeStructure}
 use Rattle.deck_shape.specs.declared.table.Role.{Role}
 use Rattle.deck_shape.specs.declared.table.Role.TheVariants.{Value, Rows as HasRows, Encloses, BeginsLattice, Closes, Unsupported}
 use Rattle.deck_shape.specs.declared.table.Rule.{Rule}
@@ -22,7 +25,7 @@ use Rattle.deck_shape.specs.WholeBlocks.{IsKnown, IsWhole}
 use Rattle.deck_shape.proofs.ReadBlocks.{read_has, role_of, rule_in}
 
 -- a block that knows its closing word alone
-abbrev pub ClosesAlone : BlockKind → Type 0
+abbrev pub ClosesAlone : BlockForm → Type 0
 ClosesAlone kind = AllByRecursion (λ rule. rule.role ≡ Closes) (rules_of kind)
 
 abbrev pub IsBelow : Below → Type 0
@@ -38,7 +41,7 @@ IsRole BeginsLattice = Unit {0}
 IsRole Closes = Unit {0}
 IsRole Unsupported = Unit {0}
 
-all_roles : (kind : BlockKind) → AllByRecursion (λ rule. IsRole rule.role) (rules_of kind)
+all_roles : (kind : BlockForm) → AllByRecursion (λ rule. IsRole rule.role) (rules_of kind)
 all_roles Simulation = search rules depth 60
 all_roles LatticeFile = (tt, tt)
 all_roles DefaultChoice = (tt, (tt, (tt, (tt, tt))))
@@ -52,7 +55,8 @@ pub record IsRead (so_far : SoFar) : Type 0 where
   pub known : AllByRecursion (IsKnown so_far.block.kind) so_far.block.items
   pub below : IsBelow so_far.below
 
-not_first : (holds : Bool) (kind : ℕ) (faults : List (Bool × ℕ)) → first_kind ((holds, kind) ∷ faults) ≡ None → (holds ≡ false) × (first_kind faults ≡ None)
+not_first : (holds : Bool) (kind : ℕ) (faults : List (Bool × ℕ)) → first_kind ((holds, kind) ∷ faults) ≡ None
+    → (holds ≡ false) × (first_kind faults ≡ None)
 not_first true kind faults none = cc
 not_first false kind faults none = (refl, none)
 
@@ -60,28 +64,41 @@ module _ (so_far : SoFar) (line : WordLine) (rule : Rule) (is : rule_at so_far l
   no_rule_fault : first_kind (rule_faults so_far line rule) ≡ None
   no_rule_fault =
       let rest = option_map_or (rule_faults so_far line) (rule_at so_far line) [] in
-      let first = not_first (is_stray_row so_far line) STRAY_ROW ((is_unknown so_far line, UNKNOWN_WORD) ∷ rest) (kinds_in_order so_far line ∙ none) in
+      let first = not_first (is_stray_row so_far line) STRAY_ROW ((is_unknown so_far line, UNKNOWN_WORD) ∷ rest)
+      (kinds_in_order so_far line ∙ none) in
       let second = not_first (is_unknown so_far line) UNKNOWN_WORD rest first.1 in
       sym (ap (λ r. first_kind (option_map_or (rule_faults so_far line) r [])) is) ∙ second.1
 
-  behind_count : (has_other_count line rule ≡ false) × (first_kind ((is_repeated so_far.block.items rule, REPEATED_WORD) ∷ (misses_word (block_of so_far) so_far.block.items rule, MISSING_WORD) ∷ (names_no_lattice line rule, UNKNOWN_LATTICE) ∷ []) ≡ None)
+  behind_count : (has_other_count line rule ≡ false)
+      × (first_kind ((is_repeated so_far.block.items rule, REPEATED_WORD)
+      ∷ (misses_word (block_of so_far) so_far.block.items rule, MISSING_WORD)
+      ∷ (names_no_lattice line rule, UNKNOWN_LATTICE) ∷ []) ≡ None)
   behind_count =
-      let first = not_first (is_unsupported rule.role) UNSUPPORTED_WORD ((has_other_count line rule, ARGUMENT_COUNT) ∷ (is_repeated so_far.block.items rule, REPEATED_WORD) ∷ (misses_word (block_of so_far) so_far.block.items rule, MISSING_WORD) ∷ (names_no_lattice line rule, UNKNOWN_LATTICE) ∷ []) no_rule_fault in
-      not_first (has_other_count line rule) ARGUMENT_COUNT ((is_repeated so_far.block.items rule, REPEATED_WORD) ∷ (misses_word (block_of so_far) so_far.block.items rule, MISSING_WORD) ∷ (names_no_lattice line rule, UNKNOWN_LATTICE) ∷ []) first.1
+      let first = not_first (is_unsupported rule.role) UNSUPPORTED_WORD
+      ((has_other_count line rule, ARGUMENT_COUNT) ∷ (is_repeated so_far.block.items rule, REPEATED_WORD)
+      ∷ (misses_word (block_of so_far) so_far.block.items rule, MISSING_WORD)
+      ∷ (names_no_lattice line rule, UNKNOWN_LATTICE) ∷ []) no_rule_fault in
+      not_first (has_other_count line rule) ARGUMENT_COUNT
+      ((is_repeated so_far.block.items rule, REPEATED_WORD)
+      ∷ (misses_word (block_of so_far) so_far.block.items rule, MISSING_WORD)
+      ∷ (names_no_lattice line rule, UNKNOWN_LATTICE) ∷ []) first.1
 
   allowed : allows rule.arguments (length (arguments_of line)) ≡ true
   allowed = not-false (allows rule.arguments (length (arguments_of line))) behind_count.0
 
   misses_none : misses_word (block_of so_far) so_far.block.items rule ≡ false
   misses_none =
-      let third = not_first (is_repeated so_far.block.items rule) REPEATED_WORD ((misses_word (block_of so_far) so_far.block.items rule, MISSING_WORD) ∷ (names_no_lattice line rule, UNKNOWN_LATTICE) ∷ []) behind_count.1 in
+      let third = not_first (is_repeated so_far.block.items rule) REPEATED_WORD
+      ((misses_word (block_of so_far) so_far.block.items rule, MISSING_WORD)
+      ∷ (names_no_lattice line rule, UNKNOWN_LATTICE) ∷ []) behind_count.1 in
       (not_first (misses_word (block_of so_far) so_far.block.items rule) MISSING_WORD ((names_no_lattice line rule, UNKNOWN_LATTICE) ∷ []) third.1).0
 
 all_pushed : {X : Type 0} (P : X → Type 0) (xs : List X) (x : X) → AllByRecursion P xs → P x → AllByRecursion P (xs ++ x ∷ [])
 all_pushed P [] x all here = (here, tt)
 all_pushed P (y ∷ ys) x all here = (all.0, all_pushed P ys x all.1 here)
 
-row_kept : (kind : BlockKind) (row : WordLine) (items : List ItemLines) → AllByRecursion (IsKnown kind) items → AllByRecursion (IsKnown kind) (with_row row items)
+row_kept : (kind : BlockForm) (row : WordLine) (items : List ItemLines) → AllByRecursion (IsKnown kind) items
+    → AllByRecursion (IsKnown kind) (with_row row items)
 row_kept kind row [] all = tt
 row_kept kind row (item ∷ []) all = (record { rule = all.0.rule; has_rule = all.0.has_rule; is_allowed = all.0.is_allowed }, tt)
 row_kept kind row (item ∷ next ∷ items) all = (all.0, row_kept kind row (next ∷ items) all.1)
@@ -98,7 +115,9 @@ module _ (so_far : SoFar) (read : IsRead so_far) (line : WordLine) (known : IsKn
 
 module _ (block : BlockLines) (line : WordLine) (rule : Rule) where
   in_block : (below : Below) → block_of (record { block = block; below = below }) ≡ block.kind → IsRead (record { block = block; below = below })
-      → rule_at (record { block = block; below = below }) line ≡ Some rule → fault_at (record { block = block; below = below }) line ≡ None → IsRead (after_word line (record { block = block; below = below }) rule.role)
+      → rule_at (record { block = block; below = below }) line ≡ Some rule
+      → fault_at (record { block = block; below = below }) line ≡ None
+      → IsRead (after_word line (record { block = block; below = below }) rule.role)
   in_block below same read is none =
       let so_far : SoFar = record { block = block; below = below } in
       let found : rule_for block.kind (head_of line) ≡ Some rule = rule_in so_far line rule block.kind same is in
@@ -123,14 +142,15 @@ closed : (so_far : SoFar) (line : WordLine) (rule : Rule) → IsRead so_far → 
     → block_of so_far ≡ so_far.block.kind → closes rule.role ≡ true → IsWhole (record so_far.block { end_line = line.number })
 closed so_far line rule read is none same closing =
     let items = so_far.block.items in
-    let misses : (closes rule.role && list_any (is_missing items) (rules_of so_far.block.kind)) ≡ false = sym (ap (λ k. misses_word k items rule) same) ∙ misses_none so_far line rule is none in
+    let misses : (closes rule.role && list_any (is_missing items) (rules_of so_far.block.kind)) ≡ false =
+    sym (ap (λ k. misses_word k items rule) same) ∙ misses_none so_far line rule is none in
     record {
       known = read.known;
       none_missing = and_rest (closes rule.role) (list_any (is_missing items) (rules_of so_far.block.kind)) closing misses;
     }
 
 -- the block of a file is whole
-pub whole_block : (kind : BlockKind) (text : List ℕ) (block : BlockLines) → block_of_text kind text ≡ Ok block → IsWhole block
+pub whole_block : (kind : BlockForm) (text : List ℕ) (block : BlockLines) → block_of_text kind text ≡ Ok block → IsWhole block
 whole_block kind text block is =
     read_has IsRead IsWhole
     (λ so_far row read. record { known = row_kept so_far.block.kind row so_far.block.items read.known; below = read.below })

@@ -8,7 +8,7 @@ use Rattle.deck_shape.specs.Tables.{is_spelled}
 use Rattle.deck_shape.specs.declared.keyword.Keyword.{Keyword}
 use Rattle.deck_shape.specs.declared.shape.Block.{Block}
 use Rattle.deck_shape.specs.declared.shape.Item.{Item}
-use Rattle.deck_shape.specs.declared.table.BlockKind.{BlockKind}
+use Rattle.deck_shape.specs.declared.table.BlockForm.{BlockForm}
 use Rattle.deck_shape.specs.declared.table.Need.{Need}
 use Rattle.deck_shape.specs.declared.table.Need.TheVariants.{Optional, Required, ThisOr}
 use Rattle.deck_shape.specs.declared.table.Rule.{Rule}
@@ -21,7 +21,7 @@ pub record ItemLines : Type 0 where
 -- A block: the word that opened it with its line and its argument, the line of its closing word, and its word lines.
 -- A file that is a block as a whole has no opening word: an empty one, at line 0.
 pub record BlockLines : Type 0 where
-  pub kind : BlockKind
+  pub kind : BlockForm
   pub word : Run
   pub line : ℕ
   pub end_line : ℕ

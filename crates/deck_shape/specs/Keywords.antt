@@ -1,7 +1,15 @@
 -- The keywords of the input files.
 use Rattle.std.specs.Prelude.{ℕ, List, codes}
 use Rattle.deck_shape.specs.declared.keyword.Keyword.{Keyword}
-use Rattle.deck_shape.specs.declared.keyword.Keyword.TheVariants.{RandomSeed, Temperature, Pressure, NGasSpecies, GasSpecsNames, GasEnergies, GasMolecWeights, GasMolarFracs, NSurfSpecies, SurfSpecsNames, SurfSpecsDent, Snapshots, ProcessStatistics, SpeciesNumbers, EventReport, MaxSteps, MaxTime, WallTime, NoRestart, OverrideArrayBounds, Finish, Lattice, RectangularPeriodic, HexagonalPeriodic, TriangularPeriodic, CellVectors, RepeatCell, NCellSites, NSiteTypes, SiteTypeNames, SiteTypes, SiteCoordinates, NeighboringStructure, EndNeighboringStructure, NSites, MaxCoord, LatticeStructure, EndLatticeStructure, EndLattice}
+use Rattle.deck_shape.specs.declared.keyword.Keyword.TheVariants.{RandomSeed, Temperature, Pressure, NGasSpecies, GasSpecsNames}
+use Rattle.deck_shape.specs.declared.keyword.Keyword.TheVariants.{GasEnergies, GasMolecWeights, GasMolarFracs, NSurfSpecies}
+use Rattle.deck_shape.specs.declared.keyword.Keyword.TheVariants.{SurfSpecsNames, SurfSpecsDent, Snapshots, ProcessStatistics}
+use Rattle.deck_shape.specs.declared.keyword.Keyword.TheVariants.{SpeciesNumbers, EventReport, MaxSteps, MaxTime, WallTime, NoRestart}
+use Rattle.deck_shape.specs.declared.keyword.Keyword.TheVariants.{OverrideArrayBounds, Finish, Lattice, RectangularPeriodic}
+use Rattle.deck_shape.specs.declared.keyword.Keyword.TheVariants.{HexagonalPeriodic, TriangularPeriodic, CellVectors, RepeatCell}
+use Rattle.deck_shape.specs.declared.keyword.Keyword.TheVariants.{NCellSites, NSiteTypes, SiteTypeNames, SiteTypes, SiteCoordinates}
+use Rattle.deck_shape.specs.declared.keyword.Keyword.TheVariants.{NeighboringStructure, EndNeighboringStructure, NSites, MaxCoord}
+use Rattle.deck_shape.specs.declared.keyword.Keyword.TheVariants.{LatticeStructure, EndLatticeStructure, EndLattice}
 
 -- how each is spelled (Zacros manual); case counts
 abbrev pub spelling : Keyword → List ℕ

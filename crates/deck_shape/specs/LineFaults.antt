@@ -1,5 +1,6 @@
 -- The faults of form: which kinds hold at a line, by what has been read above it.
-use Rattle.std.specs.Prelude.{ℕ, ◌&&◌, ◌+◌, Bool, true, false, not, List, [], ◌∷◌, ◌++◌, length, Option, None, Some, Result, Ok, Err, if◌then◌else◌, is_none, is_some, unwrap_or}
+use Rattle.std.specs.Prelude.{ℕ, ◌&&◌, ◌+◌, Bool, true, false, not, List, [], ◌∷◌, ◌++◌, length, Option, None, Some, Result, Ok, Err}
+use Rattle.std.specs.Prelude.{if◌then◌else◌, is_none, is_some, unwrap_or}
 use Rattle.std.specs.List.{list_any}
 use Rattle.std.specs.Option.{option_map_or}
 use Rattle.dec_text.specs.Bytes.{is_line_feed}
@@ -10,10 +11,11 @@ use Rattle.deck_shape.specs.Lists.{fault_if}
 use Rattle.deck_shape.specs.Numbers.{lesser}
 use Rattle.deck_shape.specs.Reading.{SoFar, argument_of, block_of, lattice_block, read_after, nothing_read, rule_at}
 use Rattle.deck_shape.specs.Tables.{allows, rules_of}
-use Rattle.deck_shape.specs.declared.kind.TheConstants.{STRAY_ROW, UNKNOWN_WORD, UNSUPPORTED_WORD, ARGUMENT_COUNT, REPEATED_WORD, MISSING_WORD, NOT_CLOSED, UNKNOWN_LATTICE}
+use Rattle.deck_shape.specs.declared.kind.TheConstants.{STRAY_ROW, UNKNOWN_WORD, UNSUPPORTED_WORD, ARGUMENT_COUNT, REPEATED_WORD}
+use Rattle.deck_shape.specs.declared.kind.TheConstants.{MISSING_WORD, NOT_CLOSED, UNKNOWN_LATTICE}
 use Rattle.deck_shape.specs.declared.reading.Below.{Below}
 use Rattle.deck_shape.specs.declared.reading.Below.TheVariants.{Words, Rows, Enclosed}
-use Rattle.deck_shape.specs.declared.table.BlockKind.{BlockKind}
+use Rattle.deck_shape.specs.declared.table.BlockForm.{BlockForm}
 use Rattle.deck_shape.specs.declared.table.Need.{Need}
 use Rattle.deck_shape.specs.declared.table.Need.TheVariants.{Optional, Required, ThisOr}
 use Rattle.deck_shape.specs.declared.table.Role.{Role}
@@ -80,7 +82,7 @@ abbrev pub is_missing : List ItemLines → Rule → Bool
 is_missing items rule = is_required rule.need && not (has_word_of rule items)
 
 -- the closing word of a block in which a word is missing
-abbrev pub misses_word : BlockKind → List ItemLines → Rule → Bool
+abbrev pub misses_word : BlockForm → List ItemLines → Rule → Bool
 misses_word kind items rule = closes rule.role && list_any (is_missing items) (rules_of kind)
 
 -- the argument of the lattice file's first word names no lattice
@@ -146,5 +148,5 @@ read_below first above (line ∷ lines) count =
     else read_below first (above ++ line ∷ []) lines count)
 
 -- the block of a text, or its first fault of form
-abbrev pub block_of_text : BlockKind → List ℕ → Result BlockLines (ℕ × ℕ)
+abbrev pub block_of_text : BlockForm → List ℕ → Result BlockLines (ℕ × ℕ)
 block_of_text kind text = read_below (nothing_read kind) [] (word_lines text) (line_count text)

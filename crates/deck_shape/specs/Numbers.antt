@@ -1,5 +1,6 @@
 -- The numbers of the input files: what is wrong with a word, and what it stands for.
-use Rattle.std.specs.Prelude.{ℕ, ◌*◌, ◌+◌, ◌^◌, ◌&&◌, ◌≤◌, ◌≤ℤ◌, neg_ℤ, ℤ, pos, negsuc, suc, Bool, true, false, not, List, [], ◌∷◌, Option, None, Some, Result, Ok, Err, if◌then◌else◌, nat_le}
+use Rattle.std.specs.Prelude.{ℕ, ◌*◌, ◌+◌, ◌^◌, ◌&&◌, ◌≤◌, ◌≤ℤ◌, neg_ℤ, ℤ, pos, negsuc, suc, Bool, true, false, not, List, [], ◌∷◌}
+use Rattle.std.specs.Prelude.{Option, None, Some, Result, Ok, Err, if◌then◌else◌, nat_le}
 use Rattle.dec_text.specs.Decimals.{Scientific, decimal_of}
 use Rattle.dec_text.specs.Scaled.{scaled_within}
 use Rattle.dec_text.specs.Wholes.{whole_number}
@@ -8,8 +9,8 @@ use Rattle.dec_text.specs.declared.faults.DecimalFault.TheVariants.{Form, Power}
 use Rattle.dec_text.specs.declared.faults.NotWhole.{NotWhole}
 use Rattle.dec_text.specs.declared.faults.OutOfRange.{OutOfRange}
 use Rattle.deck_shape.specs.declared.kind.TheConstants.{NOT_NUMBER, NOT_WHOLE, OUT_OF_RANGE}
-use Rattle.deck_shape.specs.declared.number.Number.{Number}
-use Rattle.deck_shape.specs.declared.number.Number.TheVariants.{Whole, Scaled, UpTo, Unused}
+use Rattle.deck_shape.specs.declared.number.NumberForm.{NumberForm}
+use Rattle.deck_shape.specs.declared.number.NumberForm.TheVariants.{Whole, Scaled, UpTo, Unused}
 
 -- the lesser of two kinds of fault, where both or one hold
 abbrev pub lesser : Option ℕ → Option ℕ → Option ℕ
@@ -47,31 +48,31 @@ is_scaled (Ok value) = true
 is_scaled (Err e) = false
 
 -- a decimal is in the range of a number
-abbrev pub passes : Number → Scientific → Bool
+abbrev pub passes : NumberForm → Scientific → Bool
 passes (Whole least most) n = true
 passes (Scaled places least most) n = is_scaled (scaled_within n places least most)
 passes (UpTo power) n = is_up_to power n
 passes Unused n = true
 
 -- the fault of a number's word: the least kind that holds
-abbrev pub number_kind : Number → List ℕ → Option ℕ
-number_kind (Whole least most) word = whole_kind least most (whole_number word)
-number_kind (Scaled places least most) word = decimal_kind (passes (Scaled places least most)) (decimal_of word)
-number_kind (UpTo power) word = decimal_kind (passes (UpTo power)) (decimal_of word)
-number_kind Unused word = decimal_kind (passes Unused) (decimal_of word)
+abbrev pub number_fault : NumberForm → List ℕ → Option ℕ
+number_fault (Whole least most) word = whole_kind least most (whole_number word)
+number_fault (Scaled places least most) word = decimal_kind (passes (Scaled places least most)) (decimal_of word)
+number_fault (UpTo power) word = decimal_kind (passes (UpTo power)) (decimal_of word)
+number_fault Unused word = decimal_kind (passes Unused) (decimal_of word)
 
 -- the units and the bounds are ones that a decimal can be compared in: at most 27 places and bounds within 10^36,
 -- or a power of ten of at most 18
-abbrev pub IsNumber : Number → Type 0
+abbrev pub IsNumber : NumberForm → Type 0
 IsNumber (Whole least most) = Unit {0}
 IsNumber (Scaled places least most) = (places ≤ 27) × (neg_ℤ (pos (10 ^ 36)) ≤ℤ least) × (most ≤ℤ pos (10 ^ 36))
 IsNumber (UpTo power) = power ≤ 18
 IsNumber Unused = Unit {0}
 
 -- the least fault of some words
-abbrev pub numbers_kind : Number → List (List ℕ) → Option ℕ
-numbers_kind number [] = None
-numbers_kind number (word ∷ words) = lesser (number_kind number word) (numbers_kind number words)
+abbrev pub numbers_fault : NumberForm → List (List ℕ) → Option ℕ
+numbers_fault number [] = None
+numbers_fault number (word ∷ words) = lesser (number_fault number word) (numbers_fault number words)
 
 -- the whole number that a word stands for, or the other one where the word has a fault
 abbrev pub whole_value : ℕ → ℕ → ℕ → Result ℕ NotWhole → ℕ

@@ -9,8 +9,8 @@ use Rattle.deck_shape.specs.LineWords.{arguments_of, first_of, head_of, is_row}
 use Rattle.deck_shape.specs.Tables.{rule_for, same_word}
 use Rattle.deck_shape.specs.declared.reading.Below.{Below}
 use Rattle.deck_shape.specs.declared.reading.Below.TheVariants.{Words, Rows, Enclosed}
-use Rattle.deck_shape.specs.declared.table.BlockKind.{BlockKind}
-use Rattle.deck_shape.specs.declared.table.BlockKind.TheVariants.{Simulation, LatticeFile, DefaultChoice, PeriodicCell, Explicit}
+use Rattle.deck_shape.specs.declared.table.BlockForm.{BlockForm}
+use Rattle.deck_shape.specs.declared.table.BlockForm.TheVariants.{Simulation, LatticeFile, DefaultChoice, PeriodicCell, Explicit}
 use Rattle.deck_shape.specs.declared.table.Role.{Role}
 use Rattle.deck_shape.specs.declared.table.Role.TheVariants.{Value, Rows as HasRows, Encloses, BeginsLattice, Closes, Unsupported}
 use Rattle.deck_shape.specs.declared.table.Rule.{Rule}
@@ -21,7 +21,7 @@ pub record SoFar : Type 0 where
   pub below : Below
 
 -- the block that a file is before its first line, where its words are known
-abbrev pub first_block : FileId → Option BlockKind
+abbrev pub first_block : FileId → Option BlockForm
 first_block SimulationFile = Some Simulation
 first_block LatticeText = Some LatticeFile
 first_block Energetics = None
@@ -29,20 +29,20 @@ first_block Mechanism = None
 first_block State = None
 
 -- nothing has been read yet
-abbrev pub nothing_read : BlockKind → SoFar
+abbrev pub nothing_read : BlockForm → SoFar
 nothing_read kind = record {
   block = record { kind = kind; word = run 0 []; line = 0; end_line = 0; name = run 0 []; items = [] };
   below = Words;
 }
 
 -- the block that a line below stands in: that of enclosed rows, or the file's
-abbrev pub kind_below : Below → BlockKind → BlockKind
+abbrev pub kind_below : Below → BlockForm → BlockForm
 kind_below Words kind = kind
 kind_below Rows kind = kind
 kind_below (Enclosed rows) kind = rows
 
 -- the block of the next line
-abbrev pub block_of : SoFar → BlockKind
+abbrev pub block_of : SoFar → BlockForm
 block_of so_far = kind_below so_far.below so_far.block.kind
 
 -- the rule of a word line in the block where it stands
@@ -50,7 +50,7 @@ abbrev pub rule_at : SoFar → WordLine → Option Rule
 rule_at so_far line = if is_row line then None else rule_for (block_of so_far) (head_of line)
 
 -- the lattice block that an argument names
-abbrev pub lattice_block : List ℕ → Option BlockKind
+abbrev pub lattice_block : List ℕ → Option BlockForm
 lattice_block word =
     if same_word (codes "default_choice") word
     then Some DefaultChoice

@@ -9,12 +9,12 @@ use Rattle.deck_shape.specs.WholeBlocks.{IsLatticeKind, IsWhole}
 use Rattle.deck_shape.specs.declared.fault.DeckFault.{DeckFault}
 use Rattle.deck_shape.specs.declared.fault.DeckFault.TheVariants.{Fault as Faulty, OutOfMemory}
 use Rattle.deck_shape.specs.declared.shape.Shape.{Shape}
-use Rattle.deck_shape.specs.declared.table.BlockKind.{BlockKind}
+use Rattle.deck_shape.specs.declared.table.BlockForm.{BlockForm}
 
 -- the shape of a text of a file: it has one block, that of the text, which is whole; in a lattice file it is that of a
 -- lattice
 pub record IsShapeOf (file : FileId) (text : List ℕ) (shape : Shape) : Type 0 where
-  pub kind : BlockKind
+  pub kind : BlockForm
   pub begins : first_block file ≡ Some kind
   pub block : BlockLines
   pub one : map (block_at text) shape.blocks ≡ block ∷ []

@@ -5,13 +5,15 @@ use Rattle.deck_shape.specs.Keywords.{spelling}
 use Rattle.deck_shape.specs.declared.keyword.Keyword.{Keyword}
 use Rattle.deck_shape.specs.declared.table.Arguments.{Arguments}
 use Rattle.deck_shape.specs.declared.table.Arguments.TheVariants.{Exactly, Between, Any}
-use Rattle.deck_shape.specs.declared.table.BlockKind.{BlockKind}
-use Rattle.deck_shape.specs.declared.table.BlockKind.TheVariants.{Simulation, LatticeFile, DefaultChoice, PeriodicCell, Explicit, NeighboringStructure, LatticeStructure}
+use Rattle.deck_shape.specs.declared.table.BlockForm.{BlockForm}
+use Rattle.deck_shape.specs.declared.table.BlockForm.TheVariants.{Simulation, LatticeFile, DefaultChoice, PeriodicCell, Explicit}
+use Rattle.deck_shape.specs.declared.table.BlockForm.TheVariants.{NeighboringStructure, LatticeStructure}
 use Rattle.deck_shape.specs.declared.table.Rule.{Rule}
-use Rattle.deck_shape.specs.declared.table.TheConstants.{SIMULATION, LATTICE_FILE, DEFAULT_CHOICE, PERIODIC_CELL, EXPLICIT, NEIGHBORING_STRUCTURE, LATTICE_STRUCTURE}
+use Rattle.deck_shape.specs.declared.table.TheConstants.{SIMULATION, LATTICE_FILE, DEFAULT_CHOICE, PERIODIC_CELL, EXPLICIT}
+use Rattle.deck_shape.specs.declared.table.TheConstants.{NEIGHBORING_STRUCTURE, LATTICE_STRUCTURE}
 
 -- the rules of a block: its words
-abbrev pub rules_of : BlockKind → List Rule
+abbrev pub rules_of : BlockForm → List Rule
 rules_of Simulation = SIMULATION
 rules_of LatticeFile = LATTICE_FILE
 rules_of DefaultChoice = DEFAULT_CHOICE
@@ -29,7 +31,7 @@ abbrev pub is_spelled : Keyword → List ℕ → Bool
 is_spelled keyword word = same_word (spelling keyword) word
 
 -- the rule of a word in a block, where the block has the word
-abbrev pub rule_for : BlockKind → List ℕ → Option Rule
+abbrev pub rule_for : BlockForm → List ℕ → Option Rule
 rule_for kind word = find (λ rule. is_spelled rule.keyword word) (rules_of kind)
 
 -- so many arguments are allowed

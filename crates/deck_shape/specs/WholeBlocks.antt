@@ -5,12 +5,14 @@ use Rattle.deck_shape.specs.Blocks.{BlockLines, ItemLines}
 use Rattle.deck_shape.specs.LineFaults.{is_missing}
 use Rattle.deck_shape.specs.LineWords.{arguments_of, head_of}
 use Rattle.deck_shape.specs.Tables.{allows, rule_for, rules_of}
-use Rattle.deck_shape.specs.declared.table.BlockKind.{BlockKind}
-use Rattle.deck_shape.specs.declared.table.BlockKind.TheVariants.{Simulation, LatticeFile, DefaultChoice, PeriodicCell, Explicit, NeighboringStructure as NeighboringRows, LatticeStructure as LatticeRows}
+use Rattle.deck_shape.specs.declared.table.BlockForm.{BlockForm}
+use Rattle.deck_shape.specs.declared.table.BlockForm.TheVariants.{Simulation, LatticeFile, DefaultChoice, PeriodicCell, Explicit}
+use Rattle.deck_shape.specs.declared.table.BlockForm.TheVariants.{NeighboringStructure as NeighboringRows}
+use Rattle.deck_shape.specs.declared.table.BlockForm.TheVariants.{LatticeStructure as LatticeRows}
 use Rattle.deck_shape.specs.declared.table.Rule.{Rule}
 
 -- a block that is a lattice, in one of its three forms
-abbrev pub IsLatticeKind : BlockKind → Type 0
+abbrev pub IsLatticeKind : BlockForm → Type 0
 IsLatticeKind DefaultChoice = Unit {0}
 IsLatticeKind PeriodicCell = Unit {0}
 IsLatticeKind Explicit = Unit {0}
@@ -20,7 +22,7 @@ IsLatticeKind NeighboringRows = ⊥
 IsLatticeKind LatticeRows = ⊥
 
 -- a word that the block has, with as many arguments as it takes
-pub record IsKnown (kind : BlockKind) (item : ItemLines) : Type 0 where
+pub record IsKnown (kind : BlockForm) (item : ItemLines) : Type 0 where
   pub rule : Rule
   pub has_rule : rule_for kind (head_of item.line) ≡ Some rule
   pub is_allowed : allows rule.arguments (length (arguments_of item.line)) ≡ true

@@ -18,7 +18,7 @@ use crate::kind::{
 use crate::line_words::{argument, argument_count, begins_row, head};
 use crate::reading::{Below, Reading, lattice_block};
 use crate::shape::Item;
-use crate::table::{Arguments, BlockKind, Need, Role, Rule};
+use crate::table::{Arguments, BlockForm, Need, Role, Rule};
 use dec_text::Line;
 
 /// So many arguments are allowed.
@@ -40,7 +40,7 @@ pub(crate) fn is_spelled(keyword: Keyword, word: &[u8]) -> bool
 }
 
 /// The rule of a word in a block, where the block has the word.
-fn rule_for(kind: BlockKind, word: &[u8]) -> Option<&'static Rule>
+fn rule_for(kind: BlockForm, word: &[u8]) -> Option<&'static Rule>
     ensures { option_copied result ≡ rule_for kind word.now }
 {
     kind.rules()
@@ -116,7 +116,7 @@ fn is_missing(bytes: &[u8], rule: &Rule, items: &[Item]) -> bool
 }
 
 /// Some word that has to stand in a block does not.
-fn any_is_missing(bytes: &[u8], kind: BlockKind, items: &[Item]) -> bool
+fn any_is_missing(bytes: &[u8], kind: BlockForm, items: &[Item]) -> bool
     ensures { result ≡ list_any (is_missing (map (item_at bytes.now) items.now)) (rules_of kind) }
 {
     kind.rules()
@@ -153,7 +153,7 @@ fn is_repeated(bytes: &[u8], items: &[Item], rule: &Rule) -> bool
 }
 
 /// The closing word of a block in which a word is missing.
-fn misses_word(bytes: &[u8], kind: BlockKind, items: &[Item], rule: &Rule) -> bool
+fn misses_word(bytes: &[u8], kind: BlockForm, items: &[Item], rule: &Rule) -> bool
     ensures { result ≡ misses_word kind (map (item_at bytes.now) items.now) rule.now }
 {
     closes(rule.role) && any_is_missing(bytes, kind, items)

@@ -27,11 +27,11 @@ pub use line_words::NO_WORD;
 pub use list::{fault_if, has_other_length, names_repeat};
 pub use name::Name;
 pub use number::{
-    Number, ZERO, decimal_value, lesser, number_kind, numbers_kind, up_to_value, whole_value,
+    NumberForm, ZERO, decimal_value, lesser, number_fault, numbers_fault, up_to_value, whole_value,
 };
 pub use reader::read_shape;
 pub use shape::{Block, Item, Shape};
-pub use table::BlockKind;
+pub use table::BlockForm;
 
 #[cfg(test)]
 mod tests;

@@ -1,7 +1,7 @@
 ghost use Rattle.std.specs.Prelude.{◌≡◌, ◌<◌, ◌≤◌, ◌≤ℤ◌, ◌*◌, ◌^◌, nat_le, neg_ℤ, pos, map};
 ghost use Rattle.dec_text.specs.Decimals.{decimal_of};
 ghost use Rattle.dec_text.specs.Wholes.{whole_number};
-ghost use Rattle.deck_shape.specs.Numbers.{decimal_kind, decimal_value, is_at_most, is_up_to, lesser, number_kind, numbers_kind, passes, up_to_value, whole_kind, whole_value, IsNumber};
+ghost use Rattle.deck_shape.specs.Numbers.{decimal_kind, decimal_value, is_at_most, is_up_to, lesser, number_fault, numbers_fault, passes, up_to_value, whole_kind, whole_value, IsNumber};
 ghost use Rattle.dec_text.specs.Spans.{bytes_at};
 
 use crate::kind::{NOT_NUMBER, NOT_WHOLE, OUT_OF_RANGE};
@@ -9,7 +9,7 @@ use dec_text::{Decimal, DecimalFault, Span, read_decimal, read_whole};
 
 /// How a number is written, and its range.
 #[derive(Clone, Copy, Debug, PartialEq, Eq)]
-pub enum Number {
+pub enum NumberForm {
     /// A whole number from the first to the second.
     Whole(u64, u64),
     /// A decimal in units of ten to minus the first number, rounded half away from zero. So many units are from the
@@ -96,19 +96,19 @@ fn whole_kind(least: u64, most: u64, word: &[u8]) -> Option<u8>
 }
 
 /// Whether a decimal is in the range of a number.
-fn is_within(number: Number, n: Decimal) -> bool
+fn is_within(number: NumberForm, n: Decimal) -> bool
     requires { IsNumber number }
     ensures { result ≡ passes number n }
 {
     match number {
-        Number::Scaled(places, least, most) => n.scaled(places, least, most).is_ok(),
-        Number::UpTo(power) => is_up_to(power, n),
-        Number::Whole(_, _) | Number::Unused => true,
+        NumberForm::Scaled(places, least, most) => n.scaled(places, least, most).is_ok(),
+        NumberForm::UpTo(power) => is_up_to(power, n),
+        NumberForm::Whole(_, _) | NumberForm::Unused => true,
     }
 }
 
 /// The fault of a decimal's word.
-fn decimal_kind(number: Number, word: &[u8]) -> Option<u8>
+fn decimal_kind(number: NumberForm, word: &[u8]) -> Option<u8>
     requires { IsNumber number }
     ensures { result ≡ decimal_kind (passes number) (decimal_of word.now) }
 {
@@ -122,25 +122,25 @@ fn decimal_kind(number: Number, word: &[u8]) -> Option<u8>
 
 /// The fault of a word that should be this number: `NOT_NUMBER` or `NOT_WHOLE` where it has another form,
 /// `OUT_OF_RANGE` where it is outside its range, None where it has no fault.
-pub fn number_kind(number: Number, word: &[u8]) -> Option<u8>
+pub fn number_fault(number: NumberForm, word: &[u8]) -> Option<u8>
     requires { IsNumber number }
-    ensures { result ≡ number_kind number word.now }
+    ensures { result ≡ number_fault number word.now }
 {
     match number {
-        Number::Whole(least, most) => whole_kind(least, most, word),
-        Number::Scaled(..) | Number::UpTo(_) | Number::Unused => decimal_kind(number, word),
+        NumberForm::Whole(least, most) => whole_kind(least, most, word),
+        NumberForm::Scaled(..) | NumberForm::UpTo(_) | NumberForm::Unused => decimal_kind(number, word),
     }
 }
 
 /// The least fault of some words that should each be this number.
 #[tactic(auto, using(crate::proofs::Least::lesser_none, crate::proofs::Least::lesser_assoc))]
-pub fn numbers_kind(number: Number, bytes: &[u8], words: &[Span]) -> Option<u8>
+pub fn numbers_fault(number: NumberForm, bytes: &[u8], words: &[Span]) -> Option<u8>
     requires { IsNumber number }
-    ensures { result ≡ numbers_kind number (map (bytes_at bytes.now) words.now) }
+    ensures { result ≡ numbers_fault number (map (bytes_at bytes.now) words.now) }
 {
     let mut kind = None;
     for word in words {
-        kind = lesser(kind, number_kind(number, word.bytes(bytes)));
+        kind = lesser(kind, number_fault(number, word.bytes(bytes)));
     }
     kind
 }

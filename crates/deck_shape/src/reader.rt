@@ -12,9 +12,9 @@ use crate::fault::{DeckFault, Fault};
 use crate::kind::NOT_CLOSED;
 use crate::reading::{Reading, first_block};
 use crate::shape::{Block, Shape};
-use crate::table::BlockKind;
+use crate::table::BlockForm;
 use dec_text::{Line, split};
-use kmc_base::{FileId, Items, OutOfMemory};
+use kmc_base::{FileId, Sequence, OutOfMemory};
 use std::alloc::Global;
 
 /// How many line ends a text has.
@@ -65,7 +65,7 @@ fn fault(file: FileId, line: u32, kind: u8) -> DeckFault
 fn read_block(
     alloc: Global,
     file: FileId,
-    kind: BlockKind,
+    kind: BlockForm,
     bytes: &[u8],
 ) -> Result<Block, DeckFault>
     requires { length bytes.now < 2 ^ 32 - 1 }
@@ -96,7 +96,7 @@ pub fn read_shape(alloc: Global, file: FileId, bytes: &[u8]) -> Result<Shape, De
     requires known { IsSome (first_block file) }
     requires short { length bytes.now < 2 ^ 32 - 1 }
     ensures shape { IfOk result (IsShapeOf file bytes.now) }
-    ensures fault { (kind : BlockKind) → first_block file ≡ Some kind → IfErr result (IsFaultOf file (block_of_text kind bytes.now)) }
+    ensures fault { (kind : BlockForm) → first_block file ≡ Some kind → IfErr result (IsFaultOf file (block_of_text kind bytes.now)) }
 {
     let Some(kind) = first_block(file) else {
         unreachable!();
@@ -104,6 +104,6 @@ pub fn read_shape(alloc: Global, file: FileId, bytes: &[u8]) -> Result<Shape, De
     let block = read_block(alloc, file, kind, bytes)?;
     let blocks = Vec::from_array(alloc, [block])?;
     Ok(Shape {
-        blocks: Items::new(blocks),
+        blocks: Sequence::new(blocks),
     })
 }

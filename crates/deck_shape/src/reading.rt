@@ -6,9 +6,9 @@ ghost use Rattle.deck_shape.specs.Views.{reading_at};
 
 use crate::line_words::{NO_WORD, argument, head};
 use crate::shape::{Block, Item};
-use crate::table::{BlockKind, Role};
+use crate::table::{BlockForm, Role};
 use dec_text::{Line, Span};
-use kmc_base::{FileId, Items, OutOfMemory};
+use kmc_base::{FileId, Sequence, OutOfMemory};
 use std::alloc::Global;
 
 /// What may stand on the next line.
@@ -19,13 +19,13 @@ pub(crate) enum Below {
     /// A row of the last word line, or a word line.
     Rows,
     /// A row of the last word line, or the closing word of this block of rows.
-    Enclosed(BlockKind),
+    Enclosed(BlockForm),
 }
 
 /// What has been read of a file: its block so far, and what may come next.
 #[derive(Debug, Drop)]
 pub(crate) struct Reading {
-    pub(crate) kind: BlockKind,
+    pub(crate) kind: BlockForm,
     word: Span,
     line: u32,
     name: Span,
@@ -34,24 +34,24 @@ pub(crate) struct Reading {
 }
 
 /// The block that a file is before its first line, where its words are known.
-pub(crate) fn first_block(file: FileId) -> Option<BlockKind>
+pub(crate) fn first_block(file: FileId) -> Option<BlockForm>
     ensures { result ≡ first_block file }
 {
     match file {
-        FileId::Simulation => Some(BlockKind::Simulation),
-        FileId::Lattice => Some(BlockKind::LatticeFile),
+        FileId::Simulation => Some(BlockForm::Simulation),
+        FileId::Lattice => Some(BlockForm::LatticeFile),
         FileId::Energetics | FileId::Mechanism | FileId::State => None,
     }
 }
 
 /// The lattice block that an argument names.
-pub(crate) fn lattice_block(word: &[u8]) -> Option<BlockKind>
+pub(crate) fn lattice_block(word: &[u8]) -> Option<BlockForm>
     ensures { result ≡ lattice_block word.now }
 {
     match word {
-        b"default_choice" => Some(BlockKind::DefaultChoice),
-        b"periodic_cell" => Some(BlockKind::PeriodicCell),
-        b"explicit" => Some(BlockKind::Explicit),
+        b"default_choice" => Some(BlockForm::DefaultChoice),
+        b"periodic_cell" => Some(BlockForm::PeriodicCell),
+        b"explicit" => Some(BlockForm::Explicit),
         _ => None,
     }
 }
@@ -68,14 +68,14 @@ fn with_row(alloc: Global, items: Vec<Item>, row: Line) -> Result<Vec<Item>, Out
     rows.push(row)?;
     items.push(Item {
         line,
-        rows: Items::new(rows),
+        rows: Sequence::new(rows),
     })?;
     Ok(items)
 }
 
 impl Reading {
     /// Nothing is read yet.
-    pub(crate) fn new(alloc: Global, kind: BlockKind) -> Reading
+    pub(crate) fn new(alloc: Global, kind: BlockForm) -> Reading
         ensures { (text : List ℕ) → reading_at text result ≡ nothing_read kind }
     {
         Reading {
@@ -89,7 +89,7 @@ impl Reading {
     }
 
     /// The block that the next line stands in.
-    pub(crate) fn block(&self) -> BlockKind
+    pub(crate) fn block(&self) -> BlockForm
         ensures { (text : List ℕ) → result ≡ block_of (reading_at text self.now) }
     {
         match self.below {
@@ -113,7 +113,7 @@ impl Reading {
         let mut reading = self;
         reading.items.push(Item {
             line,
-            rows: Items::new(Vec::new(alloc)),
+            rows: Sequence::new(Vec::new(alloc)),
         })?;
         reading.below = below;
         Ok(reading)
@@ -167,7 +167,7 @@ impl Reading {
             line: self.line,
             end_line,
             name: self.name,
-            items: Items::new(self.items),
+            items: Sequence::new(self.items),
         }
     }
 }

@@ -11,9 +11,9 @@ use crate::check::first_item;
 use crate::keyword::Keyword;
 use crate::line_words::{arguments, head};
 use crate::name::{Name, names_of};
-use crate::table::BlockKind;
+use crate::table::BlockForm;
 use dec_text::{Line, Span};
-use kmc_base::{Items, OutOfMemory};
+use kmc_base::{Sequence, OutOfMemory};
 use std::alloc::Global;
 
 /// A word line of a block, with the rows below it.
@@ -22,7 +22,7 @@ pub struct Item {
     /// The word line: its keyword and its arguments.
     pub line: Line,
     /// The rows that belong to it, in order.
-    pub rows: Items<Line>,
+    pub rows: Sequence<Line>,
 }
 
 impl Item {
@@ -53,7 +53,7 @@ impl Item {
 #[derive(Debug, Drop)]
 pub struct Block {
     /// Which block it is, and so which words it has.
-    pub kind: BlockKind,
+    pub kind: BlockForm,
     /// The word that opened it. A file that is a block as a whole has none, and an empty place here.
     pub word: Span,
     /// The number of the line of that word, or 0.
@@ -63,7 +63,7 @@ pub struct Block {
     /// The argument of the word that opened it, or an empty place.
     pub name: Span,
     /// Its word lines, in order, but for the one that opened it and the closing one.
-    pub items: Items<Item>,
+    pub items: Sequence<Item>,
 }
 
 impl Block {
@@ -115,5 +115,5 @@ impl Block {
 #[derive(Debug, Drop)]
 pub struct Shape {
     /// The one block of the file.
-    pub blocks: Items<Block>,
+    pub blocks: Sequence<Block>,
 }

@@ -9,7 +9,7 @@ use crate::keyword::Keyword;
 
 /// A block of an input file.
 #[derive(Clone, Copy, Debug, PartialEq, Eq)]
-pub enum BlockKind {
+pub enum BlockForm {
     /// The file `simulation_input.dat`, which is a block as a whole.
     Simulation,
     /// The file `lattice_input.dat` before its block is opened.
@@ -56,7 +56,7 @@ pub enum Role {
     /// It has rows below its line.
     Rows,
     /// It has rows below its line, up to the closing word of this block, which knows no other word.
-    Encloses(BlockKind),
+    Encloses(BlockForm),
     /// It opens the block of the lattice file that its argument names.
     BeginsLattice,
     /// It closes its block.
@@ -328,7 +328,7 @@ pub const PERIODIC_CELL: [Rule; 9] = [
         arguments: Arguments::Exactly(0),
         is_once: true,
         need: Need::Required,
-        role: Role::Encloses(BlockKind::NeighboringStructure),
+        role: Role::Encloses(BlockForm::NeighboringStructure),
     },
     Rule {
         keyword: Keyword::EndLattice,
@@ -374,7 +374,7 @@ pub const EXPLICIT: [Rule; 6] = [
         arguments: Arguments::Exactly(0),
         is_once: true,
         need: Need::Required,
-        role: Role::Encloses(BlockKind::LatticeStructure),
+        role: Role::Encloses(BlockForm::LatticeStructure),
     },
     Rule {
         keyword: Keyword::EndLattice,
@@ -403,19 +403,19 @@ pub const LATTICE_STRUCTURE: [Rule; 1] = [Rule {
     role: Role::Closes,
 }];
 
-impl BlockKind {
+impl BlockForm {
     /// The words of the block.
     pub(crate) fn rules(self) -> &'static [Rule]
         ensures { result.now ≡ rules_of self }
     {
         match self {
-            BlockKind::Simulation => &SIMULATION,
-            BlockKind::LatticeFile => &LATTICE_FILE,
-            BlockKind::DefaultChoice => &DEFAULT_CHOICE,
-            BlockKind::PeriodicCell => &PERIODIC_CELL,
-            BlockKind::Explicit => &EXPLICIT,
-            BlockKind::NeighboringStructure => &NEIGHBORING_STRUCTURE,
-            BlockKind::LatticeStructure => &LATTICE_STRUCTURE,
+            BlockForm::Simulation => &SIMULATION,
+            BlockForm::LatticeFile => &LATTICE_FILE,
+            BlockForm::DefaultChoice => &DEFAULT_CHOICE,
+            BlockForm::PeriodicCell => &PERIODIC_CELL,
+            BlockForm::Explicit => &EXPLICIT,
+            BlockForm::NeighboringStructure => &NEIGHBORING_STRUCTURE,
+            BlockForm::LatticeStructure => &LATTICE_STRUCTURE,
         }
     }
 }

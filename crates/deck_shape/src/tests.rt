@@ -157,22 +157,22 @@ fn reads_a_list(rt: HostRuntime) -> Result<(), Fail> {
 
 #[test]
 fn words_of_numbers(rt: HostRuntime) {
-    let digit = Number::Whole(1, 8);
+    let digit = NumberForm::Whole(1, 8);
     for (word, fault) in [
         ("8", None),
         ("9", Some(kind::OUT_OF_RANGE)),
         ("1.0", Some(kind::NOT_WHOLE)),
     ] {
-        assert_eq!(rt; number_kind(digit, word.as_bytes()), fault, "{word}");
+        assert_eq!(rt; number_fault(digit, word.as_bytes()), fault, "{word}");
     }
-    let energy = Number::Scaled(9, -5, 5);
+    let energy = NumberForm::Scaled(9, -5, 5);
     for (word, fault) in [
         ("-5e-9", None),
         ("6e-9", Some(kind::OUT_OF_RANGE)),
         ("1e999", Some(kind::OUT_OF_RANGE)),
         ("1e", Some(kind::NOT_NUMBER)),
     ] {
-        assert_eq!(rt; number_kind(energy, word.as_bytes()), fault, "{word}");
+        assert_eq!(rt; number_fault(energy, word.as_bytes()), fault, "{word}");
     }
     assert_eq!(rt; lesser(Some(13), Some(11)), Some(11));
     assert_eq!(rt; whole_value(1, 8, 0, b"7"), 7);
@@ -196,7 +196,7 @@ fn words_of_lists(rt: HostRuntime) -> Result<(), Fail> {
         assert_eq!(rt; names_repeat(rt.alloc(), text, names)?, repeat);
     }
     assert_eq!(rt;
-        numbers_kind(Number::Whole(1, 8), text, &spans),
+        numbers_fault(NumberForm::Whole(1, 8), text, &spans),
         Some(kind::NOT_WHOLE)
     );
     let other_length = has_other_length(Some(2), spans.len());

@@ -1,5 +1,6 @@
 -- What the definition of `specs/DecimalLogarithm.antt` gives, and that its sum fits 64 bits.
-use Rattle.std.proofs.Common.{◌≡◌, ℕ, zero, suc, ◌^◌, ◌<◌, ◌≤◌, ℤ, pos, ◌+ℤ◌, ◌*ℤ◌, ◌≤ℤ◌, unsigned_abs, Option, Some, None, refl, FitsSigned, w64, to_z, of_z, arith, lit<}
+use Rattle.std.proofs.Common.{◌≡◌, ℕ, zero, suc, ◌^◌, ◌<◌, ◌≤◌, ℤ, pos, ◌+ℤ◌, ◌*ℤ◌, ◌≤ℤ◌, unsigned_abs, Option, Some, None, refl}
+use Rattle.std.proofs.Common.{FitsSigned, w64, to_z, of_z, arith, lit<}
 use Rattle.std.proofs.lemmas.Int.{ints, to_z-of_z, fits_signed_mul}
 use Rattle.fixed_math.specs.Logarithm.{log2_of}
 use Rattle.fixed_math.specs.DecimalLogarithm.{lg_of_decimal}
@@ -17,6 +18,7 @@ positive (suc n) power e = refl
 pub lg_of_decimal-sum : (n : ℕ) (power l : ℤ) → 0 < n → unsigned_abs power ≤ 400 → pos 0 ≤ℤ l → l ≤ℤ pos (2 ^ 36) → l ≡ pos (log2_of n)
     → ◌≡◌ {A = Option ℤ} (Some (to_z w64 (of_z w64 (l +ℤ to_z w64 (of_z w64 (power *ℤ pos 3566893132)))))) (lg_of_decimal n power)
 lg_of_decimal-sum n power l some few low high e =
-    let product_fits : FitsSigned w64 (power *ℤ pos 3566893132) = fits_signed_mul w64 power (pos 3566893132) 400 3566893132 few (omega arith) (lit< tt) in
+    let product_fits : FitsSigned w64 (power *ℤ pos 3566893132) =
+    fits_signed_mul w64 power (pos 3566893132) 400 3566893132 few (omega arith) (lit< tt) in
     let sum_fits : FitsSigned w64 (l +ℤ power *ℤ pos 3566893132) = omega (arith, ints) in
     simp to_z-of_z (rw e (positive n power some))

@@ -1,6 +1,6 @@
 -- The definitions compute: worked examples, each a numeral worked out by hand elsewhere.
 use Rattle.std.proofs.Common.{◌≡◌, ℕ, ◌-◌, ◌^◌, ℤ, pos, negsuc, Some, refl}
-use Rattle.kmc_base.specs.declared.moment.When.TheVariants.{At}
+use Rattle.kmc_base.specs.declared.firing_time.When.TheVariants.{At}
 use Rattle.fixed_math.specs.Logarithm.{greatest_power, fraction_bits, log2_of}
 use Rattle.fixed_math.specs.DecimalLogarithm.{lg_of_decimal}
 use Rattle.fixed_math.specs.Exponential.{polynomial_at, exp2_of}

@@ -1,6 +1,7 @@
 -- What the definitions of `specs/Logarithm.antt` give: the whole part is the greatest power, the bits stay
 -- below the next one, and powers of two have exact logarithms.
-use Rattle.std.proofs.Common.{◌≡◌, ℕ, zero, suc, ◌+◌, ◌-◌, ◌*◌, ◌/◌, ◌%◌, ◌^◌, ◌<◌, ◌≤◌, cond, leb, refl, ap, ◌∙◌, inl, inr, le_refl, mul-div_cancel, mul_comm, mod-eq_of_lt, arith, lit<}
+use Rattle.std.proofs.Common.{◌≡◌, ℕ, zero, suc, ◌+◌, ◌-◌, ◌*◌, ◌/◌, ◌%◌, ◌^◌, ◌<◌, ◌≤◌, cond, leb, refl, ap, ◌∙◌, inl, inr, le_refl}
+use Rattle.std.proofs.Common.{mul-div_cancel, mul_comm, mod-eq_of_lt, arith, lit<}
 use Rattle.std.proofs.Math.Nat.{pow-le-pow_right, pow-succ'}
 use Rattle.std.proofs.lemmas.Bool.{leb-true, leb-false, cases_lt, cond_both}
 use Rattle.std.proofs.lemmas.Nat.{pow_pos, le-div, div_below, mul-lt, mul-le}
@@ -65,11 +66,13 @@ unfolding fraction_bits
 one_more bits rest n = omega arith
 
 -- the loop's step, at the place p from the end
-module _ (bits rest bit p total : ℕ) (some : 0 < p) (few : p ≤ 30) (is_bit : bit ≡ leading_bit rest) (whole : bits + fraction_bits p rest ≡ total) where
+module _ (bits rest bit p total : ℕ) (some : 0 < p) (few : p ≤ 30) (is_bit : bit ≡ leading_bit rest)
+    (whole : bits + fraction_bits p rest ≡ total) where
   pub placed : bit * 2 ^ (p - 1) % 2 ^ 64 ≡ leading_bit rest * 2 ^ (p - 1)
   placed =
       let small : 2 ^ (p - 1) ≤ 2 ^ 30 = pow-le-pow_right {n = 2} (lit< tt) {i = p - 1} {j = 30} (omega arith) in
-      let fits : leading_bit rest * 2 ^ (p - 1) < 2 ^ 64 = omega (arith, mul-le (leading_bit rest) (2 ^ (p - 1)) 1 (2 ^ 30) (leading_bit_le rest) small) in
+      let fits : leading_bit rest * 2 ^ (p - 1) < 2 ^ 64 =
+      omega (arith, mul-le (leading_bit rest) (2 ^ (p - 1)) 1 (2 ^ 30) (leading_bit_le rest) small) in
       ap (λ (b : ℕ). b * 2 ^ (p - 1) % 2 ^ 64) is_bit ∙ mod-eq_of_lt fits
 
   pub one_placed : bits + bit * 2 ^ (p - 1) % 2 ^ 64 + fraction_bits (p - 1) (rest * rest / 2 ^ (31 + bit)) ≡ total
@@ -117,7 +120,8 @@ power_bits k =
     ap (fraction_bits 30) (ap (λ n. n / 2 ^ k) (mul_comm (2 ^ k) (2 ^ 31)) ∙ mul-div_cancel (2 ^ 31) (pow_pos k)) ∙ fraction_bits-one 30
 
 -- the sum that the code makes, in 128 bits and then in 64
-pub log2_of-sum : (y w v bits : ℕ) → 1 ≤ y → y ≤ 2 ^ 64 → 2 ^ w ≤ y → y < 2 * 2 ^ w → v ≡ w → bits ≡ fraction_bits 30 (y * 2 ^ 31 % 2 ^ 128 / 2 ^ w) → v * 2 ^ 30 % 2 ^ 64 + bits ≡ log2_of y
+pub log2_of-sum : (y w v bits : ℕ) → 1 ≤ y → y ≤ 2 ^ 64 → 2 ^ w ≤ y → y < 2 * 2 ^ w → v ≡ w
+    → bits ≡ fraction_bits 30 (y * 2 ^ 31 % 2 ^ 128 / 2 ^ w) → v * 2 ^ 30 % 2 ^ 64 + bits ≡ log2_of y
 unfolding log2_of
 log2_of-sum y w v bits least most low high is_w e =
     let whole : w ≡ whole_log y = whole_log_is y least most w low (omega (arith, pow-succ' 2 w)) in

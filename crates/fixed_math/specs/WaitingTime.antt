@@ -1,9 +1,10 @@
 -- The time at which an instance of a process fires (the first reaction method of Gillespie 1976, on lattices
 -- Stamatakis and Vlachos 2011): the present time plus an exponential waiting time, which is the gap of a draw
 -- over the rate. Times are in as (10^-18 s).
-use Rattle.std.specs.Prelude.{ℕ, ◌+◌, ◌*◌, ◌/◌, ◌^◌, ◌<◌, ◌≤◌, max, ℤ, pos, negsuc, ◌-ℤ◌, ◌<ℤ◌, ◌⊎◌, int_le, nat_le, ◌&&◌, if◌then◌else◌, Option, Some, None, ⊤}
-use Rattle.kmc_base.specs.declared.moment.When.{When}
-use Rattle.kmc_base.specs.declared.moment.When.TheVariants.{At, Never}
+use Rattle.std.specs.Prelude.{ℕ, ◌+◌, ◌*◌, ◌/◌, ◌^◌, ◌<◌, ◌≤◌, max, ℤ, pos, negsuc, ◌-ℤ◌, ◌<ℤ◌, ◌⊎◌, int_le, nat_le, ◌&&◌, if◌then◌else◌}
+use Rattle.std.specs.Prelude.{Option, Some, None, ⊤}
+use Rattle.kmc_base.specs.declared.firing_time.When.{When}
+use Rattle.kmc_base.specs.declared.firing_time.When.TheVariants.{At, Never}
 use Rattle.fixed_math.specs.Exponential.{exp2_of}
 use Rattle.fixed_math.specs.Gap.{gap_of}
 

@@ -3,8 +3,9 @@ use Rattle.std.specs.Prelude.{ℕ, ◌<◌, ◌==◌, ◌&&◌, Bool, true, fals
 use Rattle.std.specs.List.{AllByRecursion}
 use Rattle.std.specs.Ordering.{int_eq}
 use Rattle.kmc_base.specs.declared.entry.Entry.{Entry}
-use Rattle.kmc_base.specs.declared.moment.When.{When}
-use Rattle.kmc_base.specs.declared.moment.When.TheVariants.{At, Never}
+use Rattle.kmc_base.specs.declared.entry.Firing.{Firing}
+use Rattle.kmc_base.specs.declared.firing_time.When.{When}
+use Rattle.kmc_base.specs.declared.firing_time.When.TheVariants.{At, Never}
 
 -- each number is below those after it
 abbrev pub IsRising : List ℕ → Type 0
@@ -42,26 +43,26 @@ kept_or fired (Some old) fresh = if same_rate old.lg fresh.lg && not (is_fired f
 abbrev pub chosen : List Entry → Option ℕ → Entry → Entry
 chosen old fired fresh = kept_or fired (entry_at fresh.code old) fresh
 
--- one (time, code) comes before another: the earlier time, and at one time the lesser code
-abbrev pub comes_before : ℕ × ℕ → ℕ × ℕ → Bool
-comes_before a b = if a.0 == b.0 then nat_lt a.1 b.1 else nat_lt a.0 b.0
+-- one firing comes before another: the earlier time, and at one time the lesser code
+abbrev pub comes_before : Firing → Firing → Bool
+comes_before a b = if a.time == b.time then nat_lt a.code b.code else nat_lt a.time b.time
 
--- the (time, code) of a code that fires at a moment
-abbrev pub moment_at : When → ℕ → Option (ℕ × ℕ)
-moment_at (At t) code = Some (t, code)
-moment_at Never code = None
+-- the firing of a code at a time, if it ever fires
+abbrev pub firing_at : When → ℕ → Option Firing
+firing_at (At t) code = Some (record { time = t; code = code })
+firing_at Never code = None
 
--- the (time, code) of an entry that has a time
-abbrev pub moment_of : Entry → Option (ℕ × ℕ)
-moment_of e = moment_at e.when e.code
+-- the firing of an entry that has a time
+abbrev pub firing_of : Entry → Option Firing
+firing_of e = firing_at e.when e.code
 
 -- the one of two that comes first, if there is one
-abbrev pub first_of_two : Option (ℕ × ℕ) → Option (ℕ × ℕ) → Option (ℕ × ℕ)
+abbrev pub first_of_two : Option Firing → Option Firing → Option Firing
 first_of_two None b = b
 first_of_two (Some a) None = Some a
 first_of_two (Some a) (Some b) = if comes_before b a then Some b else Some a
 
--- The least (time, code) of the entries that have a time, found by looking through the whole list.
-abbrev pub least : List Entry → Option (ℕ × ℕ)
+-- The firing that comes first among the entries that have a time, found by looking through the whole list.
+abbrev pub least : List Entry → Option Firing
 least [] = None
-least (e ∷ es) = first_of_two (moment_of e) (least es)
+least (e ∷ es) = first_of_two (firing_of e) (least es)

@@ -1,6 +1,6 @@
 ghost use Rattle.std.specs.Prelude.{◌≡◌, ◌↔◌, ℕ, Option, OnOk, OnErr, IfSome, IsErrOf, IsTrue};
 ghost use Rattle.std.specs.Option.{option_map};
-ghost use Rattle.kmc_base.specs.Faults.{Rose, SameCounts, SameCountsBut};
+ghost use Rattle.kmc_base.specs.Faults.{IsCount, Rose, SameCounts, SameCountsBut};
 ghost use Rattle.kmc_base.specs.Files.{Files, Loads, UnlessFailed, file_of};
 ghost use Rattle.kmc_base.specs.Numbered.{Numbered, next_fails, one_call_more};
 ghost use Rattle.kmc_base.specs.Outs.{Outs, MayAppend, MayBegin, appended, begun};
@@ -27,7 +27,8 @@ pub enum LoadFault {
 
 /// The folder that a run reads its deck from and writes its outputs to.
 ///
-/// A count of faults rises only in a call that answers `Failed`, and only that of its file or output.
+/// A count of faults rises only in a call that answers `Failed`, and only that of its file or output. It is at most
+/// 2^64 - 1, and stays there.
 ///
 /// What its files and outputs hold is told optionally: a real directory tells nothing.
 pub trait Folder {
@@ -56,6 +57,7 @@ pub trait Folder {
     fn load(&mut self, alloc: Global, file: FileId, max: usize) -> Result<Vec<u8>, LoadFault>
         ensures answer { IfSome (files self.old) (λ told. Loads (file_of told file) max result) }
         ensures cause { IsErrOf result LoadFault.Failed → Rose (read_faults self.old file) (read_faults self.new file) }
+        ensures few { IsCount (read_faults self.new file) }
         ensures no_fault { UnlessFailed result (SameCounts (read_faults self.old) (read_faults self.new)) }
         ensures other_reads { SameCountsBut file (read_faults self.old) (read_faults self.new) }
         ensures writes { SameCounts (write_faults self.old) (write_faults self.new) }
@@ -73,6 +75,7 @@ pub trait Folder {
         ensures ok { OnOk result (Tells (outs self.old) (outs self.new) (λ then now. now ≡ begun out then)) }
         ensures err { OnErr result (Tells (outs self.old) (outs self.new) (MayBegin out)) }
         ensures cause { OnErr result (Rose (write_faults self.old out) (write_faults self.new out)) }
+        ensures few { IsCount (write_faults self.new out) }
         ensures no_fault { OnOk result (SameCounts (write_faults self.old) (write_faults self.new)) }
         ensures other_writes { SameCountsBut out (write_faults self.old) (write_faults self.new) }
         ensures reads { SameCounts (read_faults self.old) (read_faults self.new) }
@@ -88,6 +91,7 @@ pub trait Folder {
         ensures ok { OnOk result (Tells (outs self.old) (outs self.new) (λ then now. now ≡ appended out piece.now then)) }
         ensures err { OnErr result (Tells (outs self.old) (outs self.new) (MayAppend out piece.now)) }
         ensures cause { OnErr result (Rose (write_faults self.old out) (write_faults self.new out)) }
+        ensures few { IsCount (write_faults self.new out) }
         ensures no_fault { OnOk result (SameCounts (write_faults self.old) (write_faults self.new)) }
         ensures other_writes { SameCountsBut out (write_faults self.old) (write_faults self.new) }
         ensures reads { SameCounts (read_faults self.old) (read_faults self.new) }

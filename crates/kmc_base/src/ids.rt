@@ -1,6 +1,3 @@
-/// The greatest number of sites of a lattice.
-pub const MAX_SITES: u32 = 65_536;
-
 /// A site of the lattice, from 0. Decks and outputs print it plus 1.
 #[derive(Clone, Copy, Debug, PartialEq, Eq, PartialOrd, Ord, Hash)]
 pub struct SiteId(pub u32);

@@ -7,27 +7,31 @@ mod entry;
 mod error;
 mod fault_counts;
 mod file_texts;
+mod firing_time;
 mod folder;
 mod gate;
 mod ids;
-mod items;
+mod limits;
 mod memory_folder;
 mod memory_sink;
-mod moment;
 mod numbered;
 mod output;
+mod sequence;
 mod sink;
 #[cfg(test)]
 mod tests;
 
-pub use entry::Entry;
+pub use entry::{Entry, Firing};
 pub use error::{Failed, OutOfMemory};
 pub use fault_counts::FaultCounts;
+pub use firing_time::When;
 pub use folder::{Folder, LoadFault};
 pub use gate::{Gate, OpenGate};
-pub use ids::{ClusterId, FileId, MAX_SITES, OutId, ProcId, SiteId, SpeciesId};
-pub use items::Items;
+pub use ids::{ClusterId, FileId, OutId, ProcId, SiteId, SpeciesId};
+pub use limits::{
+    END_OF_TIME, MAX_DENTATES, MAX_ENERGY, MAX_EVENTS, MAX_FILE_BYTES, MAX_SITES, MAX_SPECIES,
+};
 pub use memory_folder::MemoryFolder;
 pub use memory_sink::MemorySink;
-pub use moment::When;
+pub use sequence::Sequence;
 pub use sink::Sink;

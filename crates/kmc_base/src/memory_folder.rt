@@ -1,6 +1,6 @@
 ghost use Rattle.std.specs.Prelude.{◌≡◌, ◌↔◌, max, IsErr, IsErrOf, IsTrue, IfOk, IfErr, OnOk, OnErr, Some, option_copied};
 ghost use Rattle.kmc_base.specs.FaultCounts.{reads_of, writes_of};
-ghost use Rattle.kmc_base.specs.Faults.{Rose, SameCounts, SameCountsBut};
+ghost use Rattle.kmc_base.specs.Faults.{IsCount, Rose, SameCounts, SameCountsBut};
 ghost use Rattle.kmc_base.specs.Files.{file_of, files_of, Loads, UnlessFailed};
 ghost use Rattle.kmc_base.specs.InMemory.{after_load, after_begin, after_append, told_out};
 ghost use Rattle.kmc_base.specs.Numbered.{first_of, next_fails};
@@ -146,6 +146,7 @@ impl Folder for MemoryFolder {
         ensures fails { IsErrOf result LoadFault.Failed ↔ IsTrue (next_fails self.old.loads) }
         ensures answer { Loads (file_of self.old.files file) max result }
         ensures cause { IsErrOf result LoadFault.Failed → Rose (reads_of self.old.faults file) (reads_of self.new.faults file) }
+        ensures few { IsCount (reads_of self.new.faults file) }
         ensures no_fault { UnlessFailed result (SameCounts (reads_of self.old.faults) (reads_of self.new.faults)) }
         ensures other_reads { SameCountsBut file (reads_of self.old.faults) (reads_of self.new.faults) }
     {
@@ -167,6 +168,7 @@ impl Folder for MemoryFolder {
         ensures left { self.new ≡ after_begin out self.old }
         ensures fails { IsErr result ↔ IsTrue (next_fails self.old.begins) }
         ensures cause { OnErr result (Rose (writes_of self.old.faults out) (writes_of self.new.faults out)) }
+        ensures few { IsCount (writes_of self.new.faults out) }
         ensures no_fault { OnOk result (SameCounts (writes_of self.old.faults) (writes_of self.new.faults)) }
         ensures other_writes { SameCountsBut out (writes_of self.old.faults) (writes_of self.new.faults) }
     {
@@ -186,6 +188,7 @@ impl Folder for MemoryFolder {
         ensures left { self.new ≡ after_append out piece.now self.old }
         ensures fails { IsErr result ↔ IsTrue (next_fails self.old.appends) }
         ensures cause { OnErr result (Rose (writes_of self.old.faults out) (writes_of self.new.faults out)) }
+        ensures few { IsCount (writes_of self.new.faults out) }
         ensures no_fault { OnOk result (SameCounts (writes_of self.old.faults) (writes_of self.new.faults)) }
         ensures other_writes { SameCountsBut out (writes_of self.old.faults) (writes_of self.new.faults) }
     {

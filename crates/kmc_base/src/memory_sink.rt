@@ -1,5 +1,5 @@
 ghost use Rattle.std.specs.Prelude.{◌≡◌, ◌↔◌, ◌≤◌, IsErr, IsTrue, IfOk, IfErr, OnOk, OnErr, Some, [], option_copied};
-ghost use Rattle.kmc_base.specs.Faults.{Rose};
+ghost use Rattle.kmc_base.specs.Faults.{IsCount, Rose};
 ghost use Rattle.kmc_base.specs.InMemory.{after_put};
 ghost use Rattle.kmc_base.specs.Numbered.{first_of, next_fails};
 
@@ -84,6 +84,7 @@ impl Sink for MemorySink {
         ensures left { self.new ≡ after_put piece.now self.old }
         ensures fails { IsErr result ↔ IsTrue (next_fails self.old.puts) }
         ensures cause { OnErr result (Rose self.old.faults self.new.faults) }
+        ensures few { IsCount self.new.faults }
         ensures no_fault { OnOk result (self.new.faults ≡ self.old.faults) }
     {
         if self.puts.next() {

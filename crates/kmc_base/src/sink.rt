@@ -1,5 +1,5 @@
 ghost use Rattle.std.specs.Prelude.{◌≡◌, ℕ, ◌++◌, List, Option, OnOk, OnErr, take};
-ghost use Rattle.kmc_base.specs.Faults.{Rose};
+ghost use Rattle.kmc_base.specs.Faults.{IsCount, Rose};
 ghost use Rattle.kmc_base.specs.Told.{Tells};
 
 use crate::error::Failed;
@@ -25,5 +25,6 @@ pub trait Sink {
         // The first of the bytes were taken, or none.
         ensures err { OnErr result (Tells (taken self.old) (taken self.new) (λ then now. ((n : ℕ) × (now ≡ then ++ take n piece.now)))) }
         ensures cause { OnErr result (Rose (faults self.old) (faults self.new)) }
+        ensures few { IsCount (faults self.new) }
         ensures no_fault { OnOk result (faults self.new ≡ faults self.old) };
 }

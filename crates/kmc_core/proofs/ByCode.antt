@@ -1,11 +1,13 @@
 -- Instances whose codes differ, in rising order of these.
-use Rattle.std.proofs.Common.{◌≡◌, ◌≢◌, ℕ, suc, ◌<◌, ◌≤◌, true, false, cond, eqb, ℤ, List, [], ◌∷◌, ◌++◌, Option, map, get_or, length, Contains, refl, sym, ap, ◌∙◌, subst, arith, inl, inr}
+use Rattle.std.proofs.Common.{◌≡◌, ◌≢◌, ℕ, suc, ◌<◌, ◌≤◌, true, false, cond, eqb, ℤ, List, [], ◌∷◌, ◌++◌, Option, map, get_or, length}
+use Rattle.std.proofs.Common.{Contains, refl, sym, ap, ◌∙◌, subst, arith, inl, inr}
 use Rattle.std.specs.Prelude.{nat_lt}
 use Rattle.std.specs.List.{AllByRecursion, sum_by}
 use Rattle.std.specs.List.Sorted.{IsPermutation, IsNonDecreasingBy}
 use Rattle.std.proofs.lemmas.Bool.{cases_Bool, cases_lt, lt-ltb, eq-eqb, eqb-true, ne_eqb, ltb-true, ltb-false}
 use Rattle.std.proofs.lemmas.List.Elements.{All-contains, All-from_recursion, recursion_from_All}
-use Rattle.std.proofs.lemmas.List.Sorted.{Contains-permutation, sum_by-IsPermutation, IsPermutation-refl, IsPermutation-sym, IsPermutation-cons, IsPermutation-middle, IsPermutation-trans}
+use Rattle.std.proofs.lemmas.List.Sorted.{Contains-permutation, sum_by-IsPermutation, IsPermutation-refl, IsPermutation-sym}
+use Rattle.std.proofs.lemmas.List.Sorted.{IsPermutation-cons, IsPermutation-middle, IsPermutation-trans}
 use Rattle.std.proofs.lemmas.List.Sums.{sum_by-cons, get_or-le-sum_by}
 use Rattle.kmc_base.proofs.EntryLists.{below-all}
 use Rattle.kmc_base.specs.Entries.{IsRising}
@@ -24,7 +26,8 @@ AreApart (n ∷ ns) = AllByRecursion (λ m. n ≢ m) ns × AreApart ns
 
 -- ---- one more instance in its place
 
-pub all-inserted : (P : ℕ × Option ℤ → Type 0) (offer : ℕ × Option ℤ) (offers : List (ℕ × Option ℤ)) → P offer → AllByRecursion P offers → AllByRecursion P (inserted offer offers)
+pub all-inserted : (P : ℕ × Option ℤ → Type 0) (offer : ℕ × Option ℤ) (offers : List (ℕ × Option ℤ)) → P offer
+    → AllByRecursion P offers → AllByRecursion P (inserted offer offers)
 all-inserted P offer [] p all = (p, tt)
 all-inserted P offer (next ∷ rest) p all =
     elim (nat_lt offer.0 next.0) as (λ t. AllByRecursion P (cond t (offer ∷ next ∷ rest) (next ∷ inserted offer rest))) [
@@ -32,7 +35,8 @@ all-inserted P offer (next ∷ rest) p all =
       | false ↦ (all.0, all-inserted P offer rest p all.1)
     ]
 
-rising-inserted : (offer : ℕ × Option ℤ) (offers : List (ℕ × Option ℤ)) → IsRising (codes offers) → AllByRecursion (λ (other : ℕ × Option ℤ). offer.0 ≢ other.0) offers → IsRising (codes (inserted offer offers))
+rising-inserted : (offer : ℕ × Option ℤ) (offers : List (ℕ × Option ℤ)) → IsRising (codes offers)
+    → AllByRecursion (λ (other : ℕ × Option ℤ). offer.0 ≢ other.0) offers → IsRising (codes (inserted offer offers))
 rising-inserted offer [] rising apart = (tt, tt)
 rising-inserted offer (next ∷ rest) rising apart =
     elim (cases_Bool (nat_lt offer.0 next.0)) [
@@ -42,7 +46,8 @@ rising-inserted offer (next ∷ rest) rising apart =
           let other : offer.0 ≢ next.0 = apart.0 in
           rw high (
             all-map (λ (o : ℕ × Option ℤ). next.0 < o.0) (λ m. next.0 < m) (λ (o : ℕ × Option ℤ). o.0) (inserted offer rest) (λ o low. low)
-                (all-inserted (λ (o : ℕ × Option ℤ). next.0 < o.0) offer rest (omega arith) (all-from_map (λ m. next.0 < m) (λ (o : ℕ × Option ℤ). o.0) rest rising.0)),
+                (all-inserted (λ (o : ℕ × Option ℤ). next.0 < o.0) offer rest (omega arith)
+                (all-from_map (λ m. next.0 < m) (λ (o : ℕ × Option ℤ). o.0) rest rising.0)),
             rising-inserted offer rest rising.1 apart.1,
           )
     ]
@@ -82,17 +87,22 @@ moved-by_code (offer ∷ offers) =
 -- ---- one part after another
 
 -- an instance whose code is below those of a later part stands before them
-inserted-before : (offer : ℕ × Option ℤ) (here later : List (ℕ × Option ℤ)) → AllByRecursion (λ (o : ℕ × Option ℤ). offer.0 < o.0) later → inserted offer (here ++ later) ≡ inserted offer here ++ later
+inserted-before : (offer : ℕ × Option ℤ) (here later : List (ℕ × Option ℤ))
+    → AllByRecursion (λ (o : ℕ × Option ℤ). offer.0 < o.0) later
+    → inserted offer (here ++ later) ≡ inserted offer here ++ later
 inserted-before offer [] [] below = refl
 inserted-before offer [] (next ∷ rest) below = let low = lt-ltb offer.0 next.0 below.0 in rw low refl
 inserted-before offer (next ∷ rest) later below =
-    elim (nat_lt offer.0 next.0) as (λ t. cond t (offer ∷ next ∷ rest ++ later) (next ∷ inserted offer (rest ++ later)) ≡ cond t (offer ∷ next ∷ rest) (next ∷ inserted offer rest) ++ later) [
+    elim (nat_lt offer.0 next.0) as
+    (λ t. cond t (offer ∷ next ∷ rest ++ later) (next ∷ inserted offer (rest ++ later))
+    ≡ cond t (offer ∷ next ∷ rest) (next ∷ inserted offer rest) ++ later) [
       | true ↦ refl
       | false ↦ ap (λ offers. next ∷ offers) (inserted-before offer rest later below)
     ]
 
 -- two parts, of which the first has all codes below a number and the second none
-pub by_code-append : (to : ℕ) (here later : List (ℕ × Option ℤ)) → AllByRecursion (λ (o : ℕ × Option ℤ). o.0 < to) here → AllByRecursion (λ (o : ℕ × Option ℤ). to ≤ o.0) later
+pub by_code-append : (to : ℕ) (here later : List (ℕ × Option ℤ))
+    → AllByRecursion (λ (o : ℕ × Option ℤ). o.0 < to) here → AllByRecursion (λ (o : ℕ × Option ℤ). to ≤ o.0) later
     → by_code (here ++ later) ≡ by_code here ++ by_code later
 unfolding by_code
 by_code-append to [] later low high = refl
@@ -100,7 +110,9 @@ by_code-append to (offer ∷ here) later low high =
     let first = low.0 in
     ap (inserted offer) (by_code-append to here later low.1 high)
     ∙ inserted-before offer (by_code here) (by_code later)
-    (all-by_code (λ (o : ℕ × Option ℤ). offer.0 < o.0) later (all-weaker (λ (o : ℕ × Option ℤ). to ≤ o.0) (λ (o : ℕ × Option ℤ). offer.0 < o.0) later (λ o above. omega arith) high))
+    (all-by_code (λ (o : ℕ × Option ℤ). offer.0 < o.0) later
+    (all-weaker (λ (o : ℕ × Option ℤ). to ≤ o.0) (λ (o : ℕ × Option ℤ). offer.0 < o.0) later
+    (λ o above. omega arith) high))
 
 -- ---- sorted by code
 
@@ -136,12 +148,14 @@ once-there code (offer ∷ offers) apart =
     ]
 
 -- codes that do not fall, and of which none is there twice, rise
-rising-sorted : (offers : List (ℕ × Option ℤ)) → IsNonDecreasingBy (λ (o : ℕ × Option ℤ). o.0) offers → ((code : ℕ) → sum_by (hit code) offers ≤ 1) → IsRising (codes offers)
+rising-sorted : (offers : List (ℕ × Option ℤ)) → IsNonDecreasingBy (λ (o : ℕ × Option ℤ). o.0) offers
+    → ((code : ℕ) → sum_by (hit code) offers ≤ 1) → IsRising (codes offers)
 rising-sorted [] order once = tt
 rising-sorted (offer ∷ offers) order once = (
   all-map (λ (o : ℕ × Option ℤ). offer.0 < o.0) (λ m. offer.0 < m) (λ (o : ℕ × Option ℤ). o.0) offers (λ o low. low)
       (recursion_from_All (λ (o : ℕ × Option ℤ). offer.0 < o.0) offers (λ k d within. above k d within)),
-  rising-sorted offers (λ i j d le within. order (suc i) (suc j) d (omega arith) (omega arith)) (λ code. omega (arith, once code, sum_by-cons (hit code) offer offers)),
+  rising-sorted offers (λ i j d le within. order (suc i) (suc j) d (omega arith) (omega arith))
+      (λ code. omega (arith, once code, sum_by-cons (hit code) offer offers)),
 )
   where
     above : (k : ℕ) (d : ℕ × Option ℤ) → k < length offers → offer.0 < (get_or offers k d).0
@@ -159,12 +173,14 @@ rising-sorted (offer ∷ offers) order once = (
         ]
 
 -- the first code is below the others
-first-below : (offer : ℕ × Option ℤ) (offers : List (ℕ × Option ℤ)) → IsRising (codes (offer ∷ offers)) → (other : ℕ × Option ℤ) → Contains offers other → offer.0 < other.0
+first-below : (offer : ℕ × Option ℤ) (offers : List (ℕ × Option ℤ)) → IsRising (codes (offer ∷ offers))
+    → (other : ℕ × Option ℤ) → Contains offers other → offer.0 < other.0
 first-below offer offers rising other c =
     All-contains (λ (o : ℕ × Option ℤ). offer.0 < o.0) offers other
     (All-from_recursion (λ (o : ℕ × Option ℤ). offer.0 < o.0) offers (all-from_map (λ m. offer.0 < m) (λ (o : ℕ × Option ℤ). o.0) offers rising.0)) c
 
-same-first : (x y : ℕ × Option ℤ) (xs ys : List (ℕ × Option ℤ)) → IsRising (codes (x ∷ xs)) → IsRising (codes (y ∷ ys)) → Contains (y ∷ ys) x → Contains (x ∷ xs) y → x ≡ y
+same-first : (x y : ℕ × Option ℤ) (xs ys : List (ℕ × Option ℤ)) → IsRising (codes (x ∷ xs))
+    → IsRising (codes (y ∷ ys)) → Contains (y ∷ ys) x → Contains (x ∷ xs) y → x ≡ y
 same-first x y xs ys first second there back =
     elim (in-cases y ys x there) [
       | inl e ↦ sym e
@@ -174,7 +190,9 @@ same-first x y xs ys first second there back =
       ]
     ]
 
-same-later : (x : ℕ × Option ℤ) (xs ys : List (ℕ × Option ℤ)) → IsRising (codes (x ∷ xs)) → ((z : ℕ × Option ℤ) → Contains (x ∷ xs) z → Contains (x ∷ ys) z) → (z : ℕ × Option ℤ) → Contains xs z → Contains ys z
+same-later : (x : ℕ × Option ℤ) (xs ys : List (ℕ × Option ℤ)) → IsRising (codes (x ∷ xs))
+    → ((z : ℕ × Option ℤ) → Contains (x ∷ xs) z → Contains (x ∷ ys) z) → (z : ℕ × Option ℤ) → Contains xs z
+    → Contains ys z
 same-later x xs ys rising there z c =
     elim (in-cases x ys z (there z (in-rest x xs z c))) [
       | inl e ↦ let below = first-below x xs rising z c in let same : x.0 ≡ z.0 = ap (λ (o : ℕ × Option ℤ). o.0) e in absurd (omega arith)
@@ -182,7 +200,9 @@ same-later x xs ys rising there z c =
     ]
 
 -- instances whose codes rise are given by which they are
-same-rising : (xs ys : List (ℕ × Option ℤ)) → IsRising (codes xs) → IsRising (codes ys) → ((z : ℕ × Option ℤ) → Contains xs z → Contains ys z) → ((z : ℕ × Option ℤ) → Contains ys z → Contains xs z) → xs ≡ ys
+same-rising : (xs ys : List (ℕ × Option ℤ)) → IsRising (codes xs) → IsRising (codes ys)
+    → ((z : ℕ × Option ℤ) → Contains xs z → Contains ys z) → ((z : ℕ × Option ℤ) → Contains ys z → Contains xs z)
+    → xs ≡ ys
 same-rising [] [] first second there back = refl
 same-rising [] (y ∷ ys) first second there back = absurd (in-none y (back y (in-first y ys)))
 same-rising (x ∷ xs) [] first second there back = absurd (in-none x (there x (in-first x xs)))
@@ -191,15 +211,20 @@ same-rising (x ∷ xs) (y ∷ ys) first second there back =
     let second' = subst (λ (z : ℕ × Option ℤ). IsRising (codes (z ∷ ys))) (sym e) second in
     let there' = subst (λ (z : ℕ × Option ℤ). (w : ℕ × Option ℤ) → Contains (x ∷ xs) w → Contains (z ∷ ys) w) (sym e) there in
     let back' = subst (λ (z : ℕ × Option ℤ). (w : ℕ × Option ℤ) → Contains (z ∷ ys) w → Contains (x ∷ xs) w) (sym e) back in
-    subst (λ (z : ℕ × Option ℤ). x ∷ xs ≡ z ∷ ys) e (ap (λ l. x ∷ l) (same-rising xs ys first.1 second'.1 (same-later x xs ys first there') (same-later x ys xs second' back')))
+    subst (λ (z : ℕ × Option ℤ). x ∷ xs ≡ z ∷ ys) e
+    (ap (λ l. x ∷ l) (same-rising xs ys first.1 second'.1 (same-later x xs ys first there')
+    (same-later x ys xs second' back')))
 
 -- a sort by code puts instances whose codes differ into the order of their codes
-pub sorted-is : (offers sorted : List (ℕ × Option ℤ)) → AreApart (codes offers) → IsPermutation offers sorted → IsNonDecreasingBy (λ (o : ℕ × Option ℤ). o.0) sorted → sorted ≡ by_code offers
+pub sorted-is : (offers sorted : List (ℕ × Option ℤ)) → AreApart (codes offers) → IsPermutation offers sorted
+    → IsNonDecreasingBy (λ (o : ℕ × Option ℤ). o.0) sorted → sorted ≡ by_code offers
 sorted-is offers sorted apart moved order =
     let back = IsPermutation-sym offers sorted moved in
     let other = moved-by_code offers in
     same-rising sorted (by_code offers)
-    (rising-sorted sorted order (λ code. let once = once-there code offers apart in omega (arith, sum_by-IsPermutation (hit code) offers sorted moved)))
+    (rising-sorted sorted order (λ code. let once = once-there code offers apart in
+    omega (arith, sum_by-IsPermutation (hit code) offers sorted moved)))
     (rising-by_code offers apart)
     (λ z c. Contains-permutation offers (by_code offers) z other (Contains-permutation sorted offers z back c))
-    (λ z c. Contains-permutation offers sorted z moved (Contains-permutation (by_code offers) offers z (IsPermutation-sym offers (by_code offers) other) c))
+    (λ z c. Contains-permutation offers sorted z moved
+    (Contains-permutation (by_code offers) offers z (IsPermutation-sym offers (by_code offers) other) c))

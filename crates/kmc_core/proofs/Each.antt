@@ -10,7 +10,8 @@ pub all-weaker : {X : Type 0} (P Q : X → Type 0) (xs : List X) → ((x : X) �
 all-weaker P Q [] f p = tt
 all-weaker P Q (x ∷ xs) f p = (f x p.0, all-weaker P Q xs f p.1)
 
-pub all-map : {X Y : Type 0} (P : X → Type 0) (Q : Y → Type 0) (g : X → Y) (xs : List X) → ((x : X) → P x → Q (g x)) → AllByRecursion P xs → AllByRecursion Q (map g xs)
+pub all-map : {X Y : Type 0} (P : X → Type 0) (Q : Y → Type 0) (g : X → Y) (xs : List X) → ((x : X) → P x → Q (g x))
+    → AllByRecursion P xs → AllByRecursion Q (map g xs)
 all-map P Q g [] f p = tt
 all-map P Q g (x ∷ xs) f p = (f x p.0, all-map P Q g xs f p.1)
 

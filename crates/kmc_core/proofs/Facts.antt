@@ -1,5 +1,6 @@
 -- What holds of the trajectory of a sound deck at each event that it comes to.
-use Rattle.std.proofs.Common.{◌≡◌, ℕ, zero, suc, ◌^◌, ◌≤◌, true, false, not, cond, eqb, ℤ, List, [], ◌∷◌, Option, None, Some, length, map, refl, sym, ap, subst, ◌∙◌, arith, ◌&&◌}
+use Rattle.std.proofs.Common.{◌≡◌, ℕ, zero, suc, ◌^◌, ◌≤◌, true, false, not, cond, eqb, ℤ, List, [], ◌∷◌, Option, None, Some, length, map}
+use Rattle.std.proofs.Common.{refl, sym, ap, subst, ◌∙◌, arith, ◌&&◌}
 use Rattle.std.proofs.lemmas.Bool.{eqb-true}
 use Rattle.std.proofs.lemmas.List.{length-replicate, length-set}
 use Rattle.std.proofs.lemmas.List.Elements.{All-contains_itself, recursion_from_All}
@@ -8,10 +9,11 @@ use Rattle.std.specs.Option.{option_map}
 use Rattle.std.specs.Prelude.{option_and_then, IfSome, IsSomeAnd, ◌-◌, slice_get, slice_set}
 use Rattle.fixed_math.specs.WaitingTime.{IsLater, time_of}
 use Rattle.fixed_math.proofs.TimeLemmas.{time_of-later}
-use Rattle.kmc_base.specs.Entries.{IsRising, codes_of, chosen, entry_at, first_of_two, kept_or, least, moment_at, moment_of, same_rate, is_fired, comes_before}
+use Rattle.kmc_base.specs.Entries.{IsRising, codes_of, chosen, entry_at, first_of_two, kept_or, least, moment_at, moment_of, same_rate}
+use Rattle.kmc_base.specs.Entries.{is_fired, comes_before}
 use Rattle.kmc_base.specs.declared.entry.Entry.{Entry}
-use Rattle.kmc_base.specs.declared.moment.When.{When}
-use Rattle.kmc_base.specs.declared.moment.When.TheVariants.{At, Never}
+use Rattle.kmc_base.specs.declared.firing_time.When.{When}
+use Rattle.kmc_base.specs.declared.firing_time.When.TheVariants.{At, Never}
 use Rattle.kmc_core.proofs.Instances.{offers-well}
 use Rattle.kmc_core.proofs.Offered.{codes_offered}
 use Rattle.kmc_core.specs.Deck.{IsSound}
@@ -83,7 +85,8 @@ chosen-either Q fired (Some e) new p q =
 chosen-code : (old : List Entry) (fired : Option ℕ) (new : Entry) → (chosen old fired new).code ≡ new.code
 chosen-code old fired new =
     chosen-either (λ e. e.code ≡ new.code) fired (entry_at new.code old) new
-    (if_some-weaker (entry_at new.code old) (λ e. Unit {0} × (e.code ≡ new.code)) (λ e. e.code ≡ new.code) (λ e q. q.1) (found-one (λ e. Unit {0}) new.code old (all-unit old))) refl
+    (if_some-weaker (entry_at new.code old) (λ e. Unit {0} × (e.code ≡ new.code)) (λ e. e.code ≡ new.code)
+    (λ e q. q.1) (found-one (λ e. Unit {0}) new.code old (all-unit old))) refl
   where
     all-unit : (es : List Entry) → AllByRecursion (λ e. Unit {0}) es
     all-unit [] = tt
@@ -102,7 +105,8 @@ renewed-in_time : (seed event : ℕ) (old : List Entry) (first : ℕ × ℕ) (of
 renewed-in_time seed event old first [] all = tt
 renewed-in_time seed event old first (o ∷ offers) all = (
   chosen-either (λ e. IsInTime e.when) (Some first.1) (entry_at o.0 old) (fresh seed event first.0 o)
-      (if_some-weaker (entry_at o.0 old) (λ e. IsInTime e.when × (e.code ≡ o.0)) (λ e. IsInTime e.when) (λ e q. q.0) (found-one (λ e. IsInTime e.when) o.0 old all))
+      (if_some-weaker (entry_at o.0 old) (λ e. IsInTime e.when × (e.code ≡ o.0)) (λ e. IsInTime e.when) (λ e q. q.0)
+      (found-one (λ e. IsInTime e.when) o.0 old all))
       (in_time first.0 (time_of o.1 (draw seed event o.0) first.0) (time_of-later o.1 (draw seed event o.0) first.0)),
   renewed-in_time seed event old first offers all,
 )
@@ -115,14 +119,18 @@ pub record CameFrom {S : Type 0} (system : System S) (seed : ℕ) (first : S) (n
   pub least : least old.entries ≡ Some fires
   pub is : fired system seed (suc n) old fires ≡ now
 
-pub came_from : {S : Type 0} (system : System S) (seed : ℕ) (first : S) (n : ℕ) (now : Snapshot S) → trajectory system seed first (suc n) ≡ Some now → CameFrom system seed first n now
+pub came_from : {S : Type 0} (system : System S) (seed : ℕ) (first : S) (n : ℕ) (now : Snapshot S)
+    → trajectory system seed first (suc n) ≡ Some now → CameFrom system seed first n now
 came_from {S} system seed first n now e =
-    elim (trajectory system seed first n) as (λ t. trajectory system seed first n ≡ t → option_and_then (λ old. option_map (fired system seed (suc n) old) (least old.entries)) t ≡ Some now → CameFrom system seed first n now) [
+    elim (trajectory system seed first n) as (λ t. trajectory system seed first n ≡ t
+    → option_and_then (λ old. option_map (fired system seed (suc n) old) (least old.entries)) t ≡ Some now
+    → CameFrom system seed first n now) [
       | None ↦ λ b h. cc
-      | Some old ↦ λ b h. elim (least old.entries) as (λ l. least old.entries ≡ l → option_map (fired system seed (suc n) old) l ≡ Some now → CameFrom system seed first n now) [
-        | None ↦ λ m g. cc
-        | Some fires ↦ λ m g. record { old = old; before = b; fires = fires; least = m; is = cc }
-      ] refl h
+      | Some old ↦ λ b h. elim (least old.entries) as (λ l. least old.entries ≡ l
+          → option_map (fired system seed (suc n) old) l ≡ Some now → CameFrom system seed first n now) [
+            | None ↦ λ m g. cc
+            | Some fires ↦ λ m g. record { old = old; before = b; fires = fires; least = m; is = cc }
+          ] refl h
     ] refl e
 
 -- what holds at each event
@@ -148,17 +156,20 @@ pub record IsFirstOf (deck : PlainDeck) (states : List State) (first : ℕ × �
   pub time : first.0 ≤ 10 ^ 30
   pub offered : Contains (codes_offered deck states) first.1
 
-all-both : (P : ℕ → Type 0) (Q : Entry → Type 0) (es : List Entry) → AllByRecursion P (codes_of es) → AllByRecursion Q es → AllByRecursion (λ e. P e.code × Q e) es
+all-both : (P : ℕ → Type 0) (Q : Entry → Type 0) (es : List Entry) → AllByRecursion P (codes_of es)
+    → AllByRecursion Q es → AllByRecursion (λ e. P e.code × Q e) es
 all-both P Q [] p q = tt
 all-both P Q (e ∷ es) p q = ((p.0, q.0), all-both P Q es p.1 q.1)
 
-pub first-well : (deck : PlainDeck) (s : Snapshot (List State)) (first : ℕ × ℕ) → IsWell deck s → least s.entries ≡ Some first → IsFirstOf deck s.state first
+pub first-well : (deck : PlainDeck) (s : Snapshot (List State)) (first : ℕ × ℕ) → IsWell deck s
+    → least s.entries ≡ Some first → IsFirstOf deck s.state first
 first-well deck s first well is =
     let codes : List ℕ = codes_of s.entries in
     let listed : AllByRecursion (Contains codes) codes = recursion_from_All (Contains codes) codes (All-contains_itself codes) in
     let one : IsMomentOf (λ e. Contains codes e.code × IsInTime e.when) first =
     subst (λ (o : Option (ℕ × ℕ)). IfSome o (IsMomentOf (λ e. Contains codes e.code × IsInTime e.when))) is
-    (least-one (λ e. Contains codes e.code × IsInTime e.when) s.entries (all-both (Contains codes) (λ e. IsInTime e.when) s.entries listed well.times)) in
+    (least-one (λ e. Contains codes e.code × IsInTime e.when) s.entries
+    (all-both (Contains codes) (λ e. IsInTime e.when) s.entries listed well.times)) in
     record {
       time = subst IsInTime one.2 one.1.1;
       offered = subst (λ (cs : List ℕ). Contains cs first.1) well.codes (subst (λ (n : ℕ). Contains codes n) one.3 one.1.0);
@@ -175,7 +186,8 @@ fired_on-length : (states : List State) (process : PlainProcess) (sites : Option
 fired_on-length states process None = refl
 fired_on-length states process (Some sites) = with_states-length (states_for process.after sites) states
 
-fired_by-length : (lattice : Lattice) (states : List State) (code : ℕ) (process : Option PlainProcess) → length (fired_by lattice states code process) ≡ length states
+fired_by-length : (lattice : Lattice) (states : List State) (code : ℕ) (process : Option PlainProcess)
+    → length (fired_by lattice states code process) ≡ length states
 fired_by-length lattice states code None = refl
 fired_by-length lattice states code (Some process) = fired_on-length states process (sites_of lattice states process code)
 
@@ -185,7 +197,8 @@ fires-length deck states code = fired_by-length deck.graph states code (slice_ge
 pub well-fired : (deck : PlainDeck) (event : ℕ) (old : Snapshot (List State)) (first : ℕ × ℕ) → IsWell deck old → least old.entries ≡ Some first →
     IsWell deck (fired (system_of deck) deck.plan.seed event old first)
 well-fired deck event old first well is =
-    well-renewed deck event old.entries first ((system_of deck).fires old.state first.1) (fires-length deck old.state first.1 ∙ well.sites) (first-well deck old first well is).time well.times
+    well-renewed deck event old.entries first ((system_of deck).fires old.state first.1)
+    (fires-length deck old.state first.1 ∙ well.sites) (first-well deck old first well is).time well.times
 
 pub well-start : (deck : PlainDeck) → IsWell deck (start (system_of deck) deck.plan.seed (opening deck))
 well-start deck = well-renewed deck 0 [] (0, 0) (opening deck) (simp length-replicate) (omega arith) tt
@@ -202,7 +215,8 @@ pub closed-well : (deck : PlainDeck) (event : ℕ) (s : Snapshot (List State)) �
 closed-well deck event s closed = well-at deck event s closed.state
 
 -- what comes first in a closed run comes first among its entries
-pub came_first : (deck : PlainDeck) (event : ℕ) (s : Snapshot (List State)) (first : ℕ × ℕ) (run : ClosedRun) → record { deck = deck; event = event } ≡ run →
+pub came_first : (deck : PlainDeck) (event : ℕ) (s : Snapshot (List State)) (first : ℕ × ℕ) (run : ClosedRun)
+    → record { deck = deck; event = event } ≡ run →
     IsClosedAt deck event s → IsSomeAnd (trajectory_of run.deck run.event) (λ t. least t.entries ≡ Some first) → least s.entries ≡ Some first
 came_first deck event s first run is closed h =
     subst (λ (o : Option (Snapshot (List State))). IsSomeAnd o (λ t. least t.entries ≡ Some first)) closed.state
@@ -230,29 +244,37 @@ open-well deck event first states entries after o =
 
 -- the event after one that the trajectory comes to, where something fires there
 goes_to : {S : Type 0} (system : System S) (seed : ℕ) (state : S) (n event : ℕ) (old : Snapshot S) (first : ℕ × ℕ) → suc n ≡ event →
-    trajectory system seed state n ≡ Some old → least old.entries ≡ Some first → trajectory system seed state event ≡ Some (fired system seed event old first)
+    trajectory system seed state n ≡ Some old → least old.entries ≡ Some first
+    → trajectory system seed state event ≡ Some (fired system seed event old first)
 goes_to {S} system seed state n event old first is at came =
     subst (λ (m : ℕ). trajectory system seed state m ≡ Some (fired system seed m old first)) is
     (ap (option_and_then (λ (s : Snapshot S). option_map (fired system seed (suc n) s) (least s.entries))) at
     ∙ ap (option_map (fired system seed (suc n) old)) came)
 
 -- an open run with the entries after its event is at that event
-pub closes : (deck : PlainDeck) (event : ℕ) (first : ℕ × ℕ) (states : List State) (entries : List Entry) (after : Option (List Entry)) (next : List Entry) →
-    IsOpenAt deck event first states entries after → after ≡ Some next → IsClosedAt deck event (record { state = states; time = first.0; entries = next })
+pub closes : (deck : PlainDeck) (event : ℕ) (first : ℕ × ℕ) (states : List State) (entries : List Entry)
+    (after : Option (List Entry)) (next : List Entry) →
+    IsOpenAt deck event first states entries after → after ≡ Some next
+    → IsClosedAt deck event (record { state = states; time = first.0; entries = next })
 closes deck event first states entries after next o is =
     let at_next : next ≡ renewed deck.plan.seed event entries first ((system_of deck).offers states) =
-    subst (λ (x : Option (List Entry)). IfSome x (λ es. es ≡ renewed deck.plan.seed event entries first ((system_of deck).offers states))) is o.renewed_entries in
+    subst (λ (x : Option (List Entry)). IfSome x
+    (λ es. es ≡ renewed deck.plan.seed event entries first ((system_of deck).offers states))) is
+    o.renewed_entries in
     let came : least o.old.entries ≡ Some first = ap least o.old_entries ∙ o.came_first in
     record {
       sound = o.closed.sound;
       allowed = o.allowed;
       state = goes_to (system_of deck) deck.plan.seed (opening deck) (event - 1) event o.old first (omega (arith, o.some)) o.closed.state came
           ∙ ap2 (λ (ss : List State) (es : List Entry). Some (record { state = ss; time = first.0; entries = es })) (sym o.fired_states)
-          (ap2 (λ (es : List Entry) (ss : List State). renewed deck.plan.seed event es first ((system_of deck).offers ss)) o.old_entries (sym o.fired_states) ∙ sym at_next);
+          (ap2 (λ (es : List Entry) (ss : List State). renewed deck.plan.seed event es first
+          ((system_of deck).offers ss)) o.old_entries (sym o.fired_states) ∙ sym at_next);
       well_formed = o.well_formed;
     }
 
 -- what fires first in a closed run
-pub fires_first : (deck : PlainDeck) (event : ℕ) (s : Snapshot (List State)) (first : ℕ × ℕ) (run : ClosedRun) → record { deck = deck; event = event } ≡ run →
+pub fires_first : (deck : PlainDeck) (event : ℕ) (s : Snapshot (List State)) (first : ℕ × ℕ) (run : ClosedRun)
+    → record { deck = deck; event = event } ≡ run →
     IsClosedAt deck event s → IsSomeAnd (trajectory_of run.deck run.event) (λ t. least t.entries ≡ Some first) → IsFirstOf deck s.state first
-fires_first deck event s first run is closed h = first-well deck s first (closed-well deck event s closed) (came_first deck event s first run is closed h)
+fires_first deck event s first run is closed h =
+    first-well deck s first (closed-well deck event s closed) (came_first deck event s first run is closed h)

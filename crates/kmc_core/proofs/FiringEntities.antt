@@ -1,5 +1,6 @@
 -- What a sound side says of its vertices, and where the sites of an entity stand.
-use Rattle.std.proofs.Common.{Some, slice_get, ◌≡◌, ◌≢◌, ℕ, ◌+◌, ◌-◌, ◌<◌, ◌≤◌, true, false, List, length, get_or, set, take, All, inl, inr, refl, subst, sym, ◌∙◌, ap, arith}
+use Rattle.std.proofs.Common.{Some, slice_get, ◌≡◌, ◌≢◌, ℕ, ◌+◌, ◌-◌, ◌<◌, ◌≤◌, true, false, List, length, get_or, set, take, All, inl}
+use Rattle.std.proofs.Common.{inr, refl, subst, sym, ◌∙◌, ap, arith}
 use Rattle.std.proofs.lemmas.Bool.{cases_lt, cases_order, cases_eq, eq-eqb, ne_eqb, both_ways}
 use Rattle.std.proofs.lemmas.List.{get_or_past, get_or-set_same, get_or-set_other, length-map, map-set, get_or-take, length-take-le, take-map}
 use Rattle.std.proofs.lemmas.Option.{get_or_from_slice_get}
@@ -66,7 +67,8 @@ module _ (side : PatternParts) (pattern : IsPattern side) where
   apart : (i j e d : ℕ) (p q : SpeciesId) → i < j → want_at side.wanted i ≡ Holds e p d → want_at side.wanted j ≡ Holds e q d → ⊥
   apart i j e d p q below one two =
       let differ = pattern.dentates i j Any below (want_inside side.wanted j e d q two) in
-      let same : same_dentate (Holds e p d) (Holds e q d) ≡ false = sym (ap (λ w. same_dentate w (Holds e q d)) one) ∙ sym (ap (same_dentate (want_at side.wanted i)) two) ∙ differ in
+      let same : same_dentate (Holds e p d) (Holds e q d) ≡ false = sym (ap (λ w. same_dentate w (Holds e q d)) one)
+      ∙ sym (ap (same_dentate (want_at side.wanted i)) two) ∙ differ in
       let holds : same_dentate (Holds e p d) (Holds e q d) ≡ true = rw (eq-eqb e e refl, eq-eqb d d refl) refl in
       both_ways _ same holds
 
@@ -100,9 +102,12 @@ module _ (side : PatternParts) (pattern : IsPattern side) where
       ]
 
   -- one more vertex, which wants a dentate of the entity
-  pub placed_more : All IsFewDentates side.wanted → (sites : List ℕ) (own : List SiteId) (e i g : ℕ) (q : SpeciesId) (s : SiteId) → want_at side.wanted i ≡ Holds e q g → length own ≡ 8 → s.0 ≡ get_or sites i 0
+  pub placed_more : All IsFewDentates side.wanted
+      → (sites : List ℕ) (own : List SiteId) (e i g : ℕ) (q : SpeciesId) (s : SiteId)
+      → want_at side.wanted i ≡ Holds e q g → length own ≡ 8 → s.0 ≡ get_or sites i 0
       → ((k d : ℕ) (p : SpeciesId) → k < i → want_at side.wanted k ≡ Holds e p d → get_or (site_numbers own) (d - 1) 0 ≡ get_or sites k 0)
-      → (k d : ℕ) (p : SpeciesId) → k < i + 1 → want_at side.wanted k ≡ Holds e p d → get_or (site_numbers (set own (g - 1) s)) (d - 1) 0 ≡ get_or sites k 0
+      → (k d : ℕ) (p : SpeciesId) → k < i + 1 → want_at side.wanted k ≡ Holds e p d
+      → get_or (site_numbers (set own (g - 1) s)) (d - 1) 0 ≡ get_or sites k 0
   placed_more few sites own e i g q s here long is before k d p below want =
       let low : (1 ≤ g) × (g ≤ 8) = subst IsFewDentates here (few i Any (want_inside side.wanted i e g q here)) in
       let other : (1 ≤ d) × (d ≤ 8) = subst IsFewDentates want (few k Any (want_inside side.wanted k e d p want)) in
@@ -115,7 +120,8 @@ module _ (side : PatternParts) (pattern : IsPattern side) where
             ∙ get_or-set_same (site_numbers own) (g - 1) s.0 0 (omega (arith, count))
             ∙ is
             ∙ ap (λ n. get_or sites n 0) (sym same)
-        | inr different ↦ let apart : d - 1 ≢ g - 1 = λ h. let dentate : d ≡ g = omega arith in different (once k i e g p q (want ∙ ap (Holds e p) dentate) here) in
+        | inr different ↦ let apart : d - 1 ≢ g - 1 = λ h. let dentate : d ≡ g = omega arith in
+            different (once k i e g p q (want ∙ ap (Holds e p) dentate) here) in
             get_or-set_other (site_numbers own) (g - 1) (d - 1) s.0 0 apart ∙ before k d p (omega arith) want
       ]
 
@@ -158,7 +164,8 @@ module _ (dentates : ℕ → ℕ) (side : PatternParts) (sound : IsSoundSide den
       subst (IsWholeWant dentates side.wanted) is (sound.whole k Any (want_inside side.wanted k e d p is))
 
   -- the first of its places are the sites of an entity
-  pub entity_is : (k e : ℕ) (p : SpeciesId) (sites : List ℕ) (own : List SiteId) → want_at side.wanted k ≡ Holds e p 1 → length own ≡ 8 → dentates p.0 ≤ 8 → HasSites side.wanted sites e (site_numbers own)
+  pub entity_is : (k e : ℕ) (p : SpeciesId) (sites : List ℕ) (own : List SiteId) → want_at side.wanted k ≡ Holds e p 1
+      → length own ≡ 8 → dentates p.0 ≤ 8 → HasSites side.wanted sites e (site_numbers own)
       → IsEntity dentates side.wanted sites k p (site_numbers (take (dentates p.0) own))
   entity_is k e p sites own first eight few placed = record {
     entity = e;

@@ -1,7 +1,9 @@
 -- The sites of an entity among those of a placement, and which entities are done after some vertices.
-use Rattle.std.proofs.Common.{◌≡◌, ◌≢◌, ℕ, zero, suc, ◌+◌, ◌-◌, ◌<◌, ◌≤◌, Bool, true, false, ◌&&◌, ◌||◌, cond, eqb, List, [], ◌∷◌, length, get_or, take, All, AllPairs, inl, inr, refl, subst, sym, ◌∙◌, ap, arith}
+use Rattle.std.proofs.Common.{◌≡◌, ◌≢◌, ℕ, zero, suc, ◌+◌, ◌-◌, ◌<◌, ◌≤◌, Bool, true, false, ◌&&◌, ◌||◌, cond, eqb, List, [], ◌∷◌, length}
+use Rattle.std.proofs.Common.{get_or, take, All, AllPairs, inl, inr, refl, subst, sym, ◌∙◌, ap, arith}
 use Rattle.std.specs.List.{list_any}
-use Rattle.std.proofs.lemmas.Bool.{cases_order, cases_Bool, eq-eqb, eqb-true, both_ways, false≢true, and_parts, or_right, false_from_ne_true, cond-true, cond-false}
+use Rattle.std.proofs.lemmas.Bool.{cases_order, cases_Bool, eq-eqb, eqb-true, both_ways, false≢true, and_parts, or_right}
+use Rattle.std.proofs.lemmas.Bool.{false_from_ne_true, cond-true, cond-false}
 use Rattle.std.proofs.lemmas.List.{get_or_default, get_or-take, length-take-le, take_all}
 use Rattle.std.proofs.lemmas.List.Folds.{list_any_more, list_any_none, list_any_at}
 use Rattle.kmc_base.specs.declared.ids.SpeciesId.{SpeciesId}
@@ -58,7 +60,8 @@ is_begun done Vacant = false
 is_begun done (Holds e p d) = list_any (is_first_dentate e) done
 
 -- after one more vertex, which wants dentate 1 of an entity
-begun_more : (wanted : List Wanted) (k f : ℕ) (q : SpeciesId) → want_at wanted k ≡ Holds f q 1 → (w : Wanted) → is_begun (take (k + 1) wanted) w ≡ (is_begun (take k wanted) w || is_of f w)
+begun_more : (wanted : List Wanted) (k f : ℕ) (q : SpeciesId) → want_at wanted k ≡ Holds f q 1 → (w : Wanted)
+    → is_begun (take (k + 1) wanted) w ≡ (is_begun (take k wanted) w || is_of f w)
 begun_more wanted k f q is Any = refl
 begun_more wanted k f q is Vacant = refl
 begun_more wanted k f q is (Holds e p d) =
@@ -66,7 +69,9 @@ begun_more wanted k f q is (Holds e p d) =
     ∙ ap (λ b. list_any (is_first_dentate e) (take k wanted) || b) (is_first f e q (want_at wanted k) is)
 
 -- or none
-pub begun_still : (wanted : List Wanted) (k : ℕ) → k < length wanted → ((e : ℕ) → is_first_dentate e (want_at wanted k) ≡ false) → (w : Wanted) → is_begun (take (k + 1) wanted) w ≡ is_begun (take k wanted) w
+pub begun_still : (wanted : List Wanted) (k : ℕ) → k < length wanted
+    → ((e : ℕ) → is_first_dentate e (want_at wanted k) ≡ false) → (w : Wanted)
+    → is_begun (take (k + 1) wanted) w ≡ is_begun (take k wanted) w
 begun_still wanted k within none Any = refl
 begun_still wanted k within none Vacant = refl
 begun_still wanted k within none (Holds e p d) =
@@ -75,7 +80,9 @@ begun_still wanted k within none (Holds e p d) =
     ∙ or_false (list_any (is_first_dentate e) (take k wanted))
 
 -- the home of an entity
-home_is : (e k : ℕ) (p : SpeciesId) (wanted : List Wanted) (sites : List ℕ) → k < length sites → want_at wanted k ≡ Holds e p 1 → ((m : ℕ) → m < k → is_first_dentate e (want_at wanted m) ≡ false) → home_of e wanted sites ≡ get_or sites k 0
+home_is : (e k : ℕ) (p : SpeciesId) (wanted : List Wanted) (sites : List ℕ) → k < length sites
+    → want_at wanted k ≡ Holds e p 1 → ((m : ℕ) → m < k → is_first_dentate e (want_at wanted m) ≡ false)
+    → home_of e wanted sites ≡ get_or sites k 0
 home_is e k p [] sites low is before = let within = want_inside [] k e 1 p is in absurd (omega arith)
 home_is e k p (w ∷ wanted) [] low is before = absurd (omega arith)
 home_is e zero p (w ∷ wanted) (s ∷ sites) low is before =
@@ -85,7 +92,8 @@ home_is e (suc k) p (w ∷ wanted) (s ∷ sites) low is before =
     ∙ home_is e k p wanted sites (omega arith) is (λ m below. before (suc m) (omega arith))
 
 -- no site is there at two places
-pub same_place : (sites : List ℕ) → AllPairs (λ s t. s ≢ t) sites → (i j : ℕ) → i < length sites → j < length sites → get_or sites i 0 ≡ get_or sites j 0 → i ≡ j
+pub same_place : (sites : List ℕ) → AllPairs (λ s t. s ≢ t) sites → (i j : ℕ) → i < length sites → j < length sites
+    → get_or sites i 0 ≡ get_or sites j 0 → i ≡ j
 same_place sites different i j low within is =
     elim (cases_order i j) [
       | inl same ↦ same
@@ -97,9 +105,12 @@ same_place sites different i j low within is =
 
 -- ---- the sites of an entity
 
-module _ (dentates : ℕ → ℕ) (side : PatternParts) (sound : IsSoundSide dentates side) (sites : List ℕ) (long : length sites ≡ length side.wanted) (different : AllPairs (λ s t. s ≢ t) sites) (k : ℕ) (p : SpeciesId) (own : List ℕ) (is : IsEntity dentates side.wanted sites k p own) where
+module _ (dentates : ℕ → ℕ) (side : PatternParts) (sound : IsSoundSide dentates side) (sites : List ℕ)
+    (long : length sites ≡ length side.wanted) (different : AllPairs (λ s t. s ≢ t) sites) (k : ℕ) (p : SpeciesId)
+    (own : List ℕ) (is : IsEntity dentates side.wanted sites k p own) where
   -- each dentate has its site
-  pub own_at : (i d : ℕ) (q : SpeciesId) → want_at side.wanted i ≡ Holds is.entity q d → (d - 1 < length own) × (get_or own (d - 1) 0 ≡ get_or sites i 0)
+  pub own_at : (i d : ℕ) (q : SpeciesId) → want_at side.wanted i ≡ Holds is.entity q d → (d - 1 < length own)
+      × (get_or own (d - 1) 0 ≡ get_or sites i 0)
   own_at i d q want =
       let whole = whole_want dentates side sound i is.entity d q want in
       let species = one_species side sound.pattern i k is.entity d 1 q p want is.first in
@@ -107,7 +118,8 @@ module _ (dentates : ℕ → ℕ) (side : PatternParts) (sound : IsSoundSide den
       (omega (arith, whole.0, whole.1, ap dentates species), is.placed i d q want)
 
   -- and each site is that of a vertex
-  pub vertex_of : (m : ℕ) → m < length own → (i : ℕ) × (i < length sites) × (want_at side.wanted i ≡ Holds is.entity p (m + 1)) × (get_or own m 0 ≡ get_or sites i 0)
+  pub vertex_of : (m : ℕ) → m < length own → (i : ℕ) × (i < length sites)
+      × (want_at side.wanted i ≡ Holds is.entity p (m + 1)) × (get_or own m 0 ≡ get_or sites i 0)
   vertex_of m low =
       let whole = whole_want dentates side sound k is.entity 1 p is.first in
       let count = is.count in
@@ -171,7 +183,9 @@ module _ (dentates : ℕ → ℕ) (side : PatternParts) (sound : IsSoundSide den
       ap (is_begun (take k side.wanted)) want.2
       ∙ list_any_none (is_first_dentate is.entity) (take k side.wanted) (λ m d within.
       let below : m < k = omega arith in
-      ap (is_first_dentate is.entity) (get_or_default (take k side.wanted) m d Any within ∙ get_or-take k side.wanted m Any below) ∙ none_before m below)
+      ap (is_first_dentate is.entity)
+      (get_or_default (take k side.wanted) m d Any within ∙ get_or-take k side.wanted m Any below)
+      ∙ none_before m below)
 
   pub own_home : get_or own 0 0 ≡ home_of is.entity side.wanted sites
   own_home =
@@ -187,18 +201,25 @@ module _ (dentates : ℕ → ℕ) (side : PatternParts) (sound : IsSoundSide den
 -- old ones, and so is every other site.
 pub record IsProgress (wanted : List Wanted) (sites : List ℕ) (old : List State) (next : ℕ → State) (k : ℕ) (now : List State) : Type 0 where
   pub count : length now ≡ length old
-  pub on : (i : ℕ) → i < length sites → state_at now (get_or sites i 0) ≡ cond (is_begun (take k wanted) (want_at wanted i)) (next i) (state_at old (get_or sites i 0))
+  pub on : (i : ℕ) → i < length sites
+      → state_at now (get_or sites i 0) ≡ cond (is_begun (take k wanted) (want_at wanted i)) (next i)
+      (state_at old (get_or sites i 0))
   pub off : (s : ℕ) → is_listed sites s ≡ false → state_at now s ≡ state_at old s
 
 -- after one more vertex, of which no dentate 1 is wanted
-pub progress_still : (wanted : List Wanted) (sites : List ℕ) (old now : List State) (next : ℕ → State) (k : ℕ) → k < length wanted → ((e : ℕ) → is_first_dentate e (want_at wanted k) ≡ false) → IsProgress wanted sites old next k now → IsProgress wanted sites old next (k + 1) now
+pub progress_still : (wanted : List Wanted) (sites : List ℕ) (old now : List State) (next : ℕ → State) (k : ℕ)
+    → k < length wanted → ((e : ℕ) → is_first_dentate e (want_at wanted k) ≡ false)
+    → IsProgress wanted sites old next k now → IsProgress wanted sites old next (k + 1) now
 progress_still wanted sites old now next k within none before = record {
   count = before.count;
-  on = λ i low. before.on i low ∙ ap (λ b. cond b (next i) (state_at old (get_or sites i 0))) (sym (begun_still wanted k within none (want_at wanted i)));
+  on = λ i low. before.on i low
+      ∙ ap (λ b. cond b (next i) (state_at old (get_or sites i 0)))
+      (sym (begun_still wanted k within none (want_at wanted i)));
   off = before.off;
 }
 
-next_at : (dentates : ℕ → ℕ) (wanted : List Wanted) (w : Wanted) (old next : State) → IsWholeWant dentates wanted w → (w ≡ Vacant → old ≡ next) → cond (is_begun wanted w) next old ≡ next
+next_at : (dentates : ℕ → ℕ) (wanted : List Wanted) (w : Wanted) (old next : State) → IsWholeWant dentates wanted w
+    → (w ≡ Vacant → old ≡ next) → cond (is_begun wanted w) next old ≡ next
 next_at dentates wanted Any old next whole vacant = absurd whole
 next_at dentates wanted Vacant old next whole vacant = vacant refl
 next_at dentates wanted (Holds e p d) old next whole vacant =
@@ -207,7 +228,9 @@ next_at dentates wanted (Holds e p d) old next whole vacant =
     cond-true _ _ _ (list_any_at (is_first_dentate e) wanted c.0 (Holds e p 1) c.1 (is_first e e p _ here ∙ eq-eqb e e refl))
 
 -- after the last vertex
-pub progress_all : (dentates : ℕ → ℕ) (side : PatternParts) → IsSoundSide dentates side → (sites : List ℕ) (old now : List State) (next : ℕ → State) (k : ℕ) → length sites ≡ length side.wanted → length side.wanted ≤ k → IsProgress side.wanted sites old next k now
+pub progress_all : (dentates : ℕ → ℕ) (side : PatternParts) → IsSoundSide dentates side
+    → (sites : List ℕ) (old now : List State) (next : ℕ → State) (k : ℕ) → length sites ≡ length side.wanted
+    → length side.wanted ≤ k → IsProgress side.wanted sites old next k now
     → ((i : ℕ) → i < length sites → want_at side.wanted i ≡ Vacant → state_at old (get_or sites i 0) ≡ next i)
     → (i : ℕ) → i < length sites → state_at now (get_or sites i 0) ≡ next i
 progress_all dentates side sound sites old now next k long past done vacant i low =
@@ -215,14 +238,20 @@ progress_all dentates side sound sites old now next k long past done vacant i lo
     ∙ ap (λ l. cond (is_begun l (want_at side.wanted i)) (next i) (state_at old (get_or sites i 0))) (take_all k side.wanted past)
     ∙ next_at dentates side.wanted (want_at side.wanted i) (state_at old (get_or sites i 0)) (next i) (sound.whole i Any (omega arith)) (vacant i low)
 
-module _ (dentates : ℕ → ℕ) (side : PatternParts) (sound : IsSoundSide dentates side) (sites : List ℕ) (long : length sites ≡ length side.wanted) (different : AllPairs (λ s t. s ≢ t) sites) (k : ℕ) (p : SpeciesId) (own : List ℕ) (is : IsEntity dentates side.wanted sites k p own) (old now : List State) (next : ℕ → State) (before : IsProgress side.wanted sites old next k now) where
+module _ (dentates : ℕ → ℕ) (side : PatternParts) (sound : IsSoundSide dentates side) (sites : List ℕ)
+    (long : length sites ≡ length side.wanted) (different : AllPairs (λ s t. s ≢ t) sites) (k : ℕ) (p : SpeciesId)
+    (own : List ℕ) (is : IsEntity dentates side.wanted sites k p own) (old now : List State) (next : ℕ → State)
+    (before : IsProgress side.wanted sites old next k now) where
   -- until its vertex comes, an entity has its old states
-  pub still_old : (i : ℕ) → i < length sites → is_of is.entity (want_at side.wanted i) ≡ true → state_at now (get_or sites i 0) ≡ state_at old (get_or sites i 0)
+  pub still_old : (i : ℕ) → i < length sites → is_of is.entity (want_at side.wanted i) ≡ true
+      → state_at now (get_or sites i 0) ≡ state_at old (get_or sites i 0)
   still_old i low h =
       before.on i low ∙ cond-false _ _ _ (not_begun dentates side sound sites long different k p own is i h)
 
   -- after one more vertex, whose entity went over to its next states
-  pub progress_more : (after : List State) → length after ≡ length now → ((i : ℕ) → i < length sites → is_of is.entity (want_at side.wanted i) ≡ true → state_at after (get_or sites i 0) ≡ next i)
+  pub progress_more : (after : List State) → length after ≡ length now
+      → ((i : ℕ) → i < length sites → is_of is.entity (want_at side.wanted i) ≡ true
+      → state_at after (get_or sites i 0) ≡ next i)
       → ((s : ℕ) → is_listed own s ≡ false → state_at after s ≡ state_at now s) → IsProgress side.wanted sites old next (k + 1) after
   progress_more after count there elsewhere =
       let with = begun_with dentates side sound sites long different k p own is in

@@ -1,5 +1,6 @@
 -- What clearing and setting an entity makes of the states of its sites, and what a match says of them.
-use Rattle.std.proofs.Common.{◌≡◌, ◌≢◌, ℕ, zero, suc, ◌+◌, ◌-◌, ◌<◌, ◌≤◌, Bool, true, false, cond, eqb, List, [], ◌∷◌, length, get_or, set, map, zip, All, AllPairs, slice_index, inl, inr, refl, subst, sym, ◌∙◌, ap, arith}
+use Rattle.std.proofs.Common.{◌≡◌, ◌≢◌, ℕ, zero, suc, ◌+◌, ◌-◌, ◌<◌, ◌≤◌, Bool, true, false, cond, eqb, List, [], ◌∷◌, length, get_or}
+use Rattle.std.proofs.Common.{set, map, zip, All, AllPairs, slice_index, inl, inr, refl, subst, sym, ◌∙◌, ap, arith}
 use Rattle.std.specs.Bool.{beq}
 use Rattle.std.specs.List.{range_with_len, list_all}
 use Rattle.std.proofs.lemmas.Bool.{cases_Bool, cases_lt, or_parts, eq-eqb, eqb-true, both_ways, false≢true, and_parts, false_from_ne_true}
@@ -52,10 +53,12 @@ module _ (states : List State) (species : ℕ) (own : List ℕ) where
       get_or_past (map among (range_with_len 0 (length states))) s Free (omega (arith, length-map-range_with_len among 0 (length states)))
 
   -- the sites of an adsorbate that was put on
-  pub put_on : AllPairs (λ s t. s ≢ t) own → All (λ s. s < length states) own → (m : ℕ) → m < length own → state_at (put states species own) (get_or own m 0) ≡ held species (1 + m) (slice_index own 0)
+  pub put_on : AllPairs (λ s t. s ≢ t) own → All (λ s. s < length states) own → (m : ℕ) → m < length own
+      → state_at (put states species own) (get_or own m 0) ≡ held species (1 + m) (slice_index own 0)
   unfolding among
   put_on different inside m within =
-      put_within (get_or own m 0) (inside m 0 within) ∙ among_at species (slice_index own 0) 1 own m (state_at states (get_or own m 0)) different within
+      put_within (get_or own m 0) (inside m 0 within)
+      ∙ among_at species (slice_index own 0) 1 own m (state_at states (get_or own m 0)) different within
 
   -- and the other sites
   pub put_off : (s : ℕ) → is_listed own s ≡ false → state_at (put states species own) s ≡ state_at states s
@@ -68,7 +71,10 @@ module _ (states : List State) (species : ℕ) (own : List ℕ) where
 
 -- Sites that hold the dentates of a species in their order, of one home and as many as the species has, are all those of
 -- an adsorbate.
-pub whole_from : (dentates : ℕ → ℕ) (states : List State) (species home : ℕ) (own : List ℕ) → IsWellFormed dentates states → 1 ≤ length own → length own ≡ dentates species → ((m : ℕ) → m < length own → state_at states (get_or own m 0) ≡ held species (1 + m) home) → IsWholeAdsorbate states own
+pub whole_from : (dentates : ℕ → ℕ) (states : List State) (species home : ℕ) (own : List ℕ)
+    → IsWellFormed dentates states → 1 ≤ length own → length own ≡ dentates species
+    → ((m : ℕ) → m < length own → state_at states (get_or own m 0) ≡ held species (1 + m) home)
+    → IsWholeAdsorbate states own
 whole_from dentates states species home own sound some count holds =
     let adsorbate = sound (get_or own 0 0) species 1 home (holds 0 some) in
     record {
@@ -86,7 +92,8 @@ whole_from dentates states species home own sound some count holds =
           let once = adsorbate.each_once x.1 one.1 one.2 in
           let within : x.1 - 1 < length own = omega (arith, one.1, one.2) in
           let next : 1 + (x.1 - 1) ≡ x.1 = omega (arith, one.1) in
-          let there : state_at states (get_or own (x.1 - 1) 0) ≡ held species x.1 home = holds (x.1 - 1) within ∙ ap (λ n. held species n home) next in
+          let there : state_at states (get_or own (x.1 - 1) 0) ≡ held species x.1 home =
+          holds (x.1 - 1) within ∙ ap (λ n. held species n home) next in
           subst (λ t. is_listed own t ≡ true) (once.2 _ there ∙ sym (once.2 s here)) (listed_at own (x.1 - 1) within));
     }
 
@@ -109,7 +116,8 @@ same_test true b one both = refl
 same_test false true one both = absurd (false≢true both)
 same_test false false one both = one
 
-module _ (states : ℕ → State) (side : PatternParts) (sites : List ℕ) (long : length sites ≡ length side.wanted) (is : is_match states side sites ≡ true) where
+module _ (states : ℕ → State) (side : PatternParts) (sites : List ℕ) (long : length sites ≡ length side.wanted)
+    (is : is_match states side sites ≡ true) where
   vertex : (i : ℕ) → i < length sites → IsVertex (vertex_count side) (i + 1)
   vertex i low = record { some = omega arith; few = omega arith }
 
@@ -129,7 +137,9 @@ module _ (states : ℕ → State) (side : PatternParts) (sites : List ℕ) (long
       let passed = each_vertex test (vertex_count side) matched_states (i + 1) (vertex i low) in
       subst (λ n. is_as_wanted (want_at side.wanted n) (states (get_or sites n 0)) ≡ true) here passed
 
-  homes : (i j : ℕ) → i < length sites → j < length sites → homes_agree (want_at side.wanted i) (want_at side.wanted j) (states (get_or sites i 0)) (states (get_or sites j 0)) ≡ true
+  homes : (i j : ℕ) → i < length sites → j < length sites
+      → homes_agree (want_at side.wanted i) (want_at side.wanted j) (states (get_or sites i 0))
+      (states (get_or sites j 0)) ≡ true
   unfolding entities_agree
   homes i j low within =
       let here : i + 1 - 1 ≡ i = omega arith in
@@ -138,13 +148,15 @@ module _ (states : ℕ → State) (side : PatternParts) (sites : List ℕ) (long
       let row = each_vertex (λ v. list_all (test v) (vertices (vertex_count side))) (vertex_count side) matched_entities (i + 1) (vertex i low) in
       let passed = each_vertex (test (i + 1)) (vertex_count side) row (j + 1) (vertex j within) in
       subst (λ n. homes_agree (want_at side.wanted n) (want_at side.wanted j) (states (get_or sites n 0)) (states (get_or sites j 0)) ≡ true) here
-      (subst (λ n. homes_agree (want_at side.wanted (i + 1 - 1)) (want_at side.wanted n) (states (get_or sites (i + 1 - 1) 0)) (states (get_or sites n 0)) ≡ true) there passed)
+      (subst (λ n. homes_agree (want_at side.wanted (i + 1 - 1)) (want_at side.wanted n)
+      (states (get_or sites (i + 1 - 1) 0)) (states (get_or sites n 0)) ≡ true) there passed)
 
   -- where a vacant site is wanted, the site is vacant
   pub matched_free : (i : ℕ) → i < length sites → want_at side.wanted i ≡ Vacant → states (get_or sites i 0) ≡ Free
   matched_free i low want = as_free _ (ap (λ w. is_as_wanted w (states (get_or sites i 0))) (sym want) ∙ agrees i low)
 
-  matched_held : (i e d : ℕ) (p : SpeciesId) → i < length sites → want_at side.wanted i ≡ Holds e p d → (h : ℕ) × (states (get_or sites i 0) ≡ held p.0 d h)
+  matched_held : (i e d : ℕ) (p : SpeciesId) → i < length sites → want_at side.wanted i ≡ Holds e p d
+      → (h : ℕ) × (states (get_or sites i 0) ≡ held p.0 d h)
   matched_held i e d p low want = as_wanted e d p _ (ap (λ w. is_as_wanted w (states (get_or sites i 0))) (sym want) ∙ agrees i low)
 
   -- the dentates that are wanted of an entity are there, of one home
@@ -172,7 +184,8 @@ unfolding with_states
 with-length [] states = refl
 with-length (pair ∷ given) states = with-length given (set states pair.0 pair.1) ∙ length-set states pair.0 pair.1
 
-pub with-off : (sites : List ℕ) (given states : List State) (s : ℕ) → is_listed sites s ≡ false → state_at (with_states (zip sites given) states) s ≡ state_at states s
+pub with-off : (sites : List ℕ) (given states : List State) (s : ℕ) → is_listed sites s ≡ false
+    → state_at (with_states (zip sites given) states) s ≡ state_at states s
 unfolding with_states
 with-off [] given states s none = refl
 with-off (t ∷ sites) [] states s none = refl
@@ -185,7 +198,9 @@ first_once : (t : ℕ) (sites : List ℕ) → AllPairs (λ s u. s ≢ u) (t ∷ 
 first_once t sites different =
     false_from_ne_true _ (λ h. let m = listed_place sites t h in different 0 (suc m.0) 0 (omega arith) (let low = m.1 in omega arith) (sym m.2))
 
-pub with-on : (sites : List ℕ) (given states : List State) (i : ℕ) → i < length sites → length given ≡ length sites → AllPairs (λ s t. s ≢ t) sites → All (λ s. s < length states) sites → state_at (with_states (zip sites given) states) (get_or sites i 0) ≡ get_or given i Free
+pub with-on : (sites : List ℕ) (given states : List State) (i : ℕ) → i < length sites → length given ≡ length sites
+    → AllPairs (λ s t. s ≢ t) sites → All (λ s. s < length states) sites
+    → state_at (with_states (zip sites given) states) (get_or sites i 0) ≡ get_or given i Free
 unfolding with_states
 with-on [] given states i low long different inside = absurd (omega arith)
 with-on (t ∷ sites) [] states i low long different inside = absurd (omega arith)
@@ -196,8 +211,10 @@ with-on (t ∷ sites) (x ∷ given) states (suc i) low long different inside =
     (λ j d within. let there = inside (suc j) d (omega arith) in let count = length-set states t x in omega arith)
 
 -- a configuration that has these states on these sites, and elsewhere the old ones
-pub with-is : (sites : List ℕ) (given states now : List State) → length given ≡ length sites → AllPairs (λ s t. s ≢ t) sites → All (λ s. s < length states) sites → length now ≡ length states
-    → ((i : ℕ) → i < length sites → state_at now (get_or sites i 0) ≡ get_or given i Free) → ((s : ℕ) → is_listed sites s ≡ false → state_at now s ≡ state_at states s)
+pub with-is : (sites : List ℕ) (given states now : List State) → length given ≡ length sites
+    → AllPairs (λ s t. s ≢ t) sites → All (λ s. s < length states) sites → length now ≡ length states
+    → ((i : ℕ) → i < length sites → state_at now (get_or sites i 0) ≡ get_or given i Free)
+    → ((s : ℕ) → is_listed sites s ≡ false → state_at now s ≡ state_at states s)
     → now ≡ with_states (zip sites given) states
 with-is sites given states now long different inside count on off =
     ext_get_or Free now (with_states (zip sites given) states) (count ∙ sym (with-length (zip sites given) states)) (λ s within.

@@ -1,5 +1,6 @@
 -- Adsorbates are counted by the classes of the sites.
-use Rattle.std.proofs.Common.{◌≡◌, ℕ, ◌+◌, ◌*◌, ◌≤◌, ◌==◌, Bool, List, [], ◌∷◌, length, map, cond, count_by, fold, inl, inr, refl, ap, ◌∙◌, subst, arith}
+use Rattle.std.proofs.Common.{◌≡◌, ℕ, ◌+◌, ◌*◌, ◌≤◌, ◌==◌, Bool, List, [], ◌∷◌, length, map, cond, count_by, fold, inl, inr, refl, ap}
+use Rattle.std.proofs.Common.{◌∙◌, subst, arith}
 use Rattle.std.proofs.Math.ListN.{get_or-eq_default}
 use Rattle.std.proofs.lemmas.Bool.{cases_lt, ne_eqb}
 use Rattle.std.proofs.lemmas.Bool.Decides.{nat_tests}
@@ -29,14 +30,17 @@ class-home species Vacant has = ne_eqb 0 (home_class species) (λ e. absurd (ome
 class-home species (Holds other dentate home) has = grind (arith, nat_tests)
 
 count-homes : (species : SpeciesId) (n : ℕ) (states : List State) → AllByRecursion HasDentate states →
-    fold (λ a class. a + cond (class == home_class species) 1 0) n (map class_of states) ≡ fold (λ a state. a + cond (is_home_of species state) 1 0) n states
+    fold (λ a class. a + cond (class == home_class species) 1 0) n (map class_of states)
+    ≡ fold (λ a state. a + cond (is_home_of species state) 1 0) n states
 count-homes species n [] has = refl
 count-homes species n (state ∷ states) has =
-    ap (λ (b : Bool). fold (λ a class. a + cond (class == home_class species) 1 0) (n + cond b 1 0) (map class_of states)) (class-home species state has.0)
+    ap (λ (b : Bool). fold (λ a class. a + cond (class == home_class species) 1 0) (n + cond b 1 0)
+    (map class_of states)) (class-home species state has.0)
     ∙ count-homes species (n + cond (is_home_of species state) 1 0) states has.1
 
 -- each dentate of a well-formed configuration is one of eight, where no species has more
-dentate-at : (dentates : ℕ → ℕ) (states : List State) → ((s : ℕ) → dentates s ≤ 8) → IsWellFormed dentates states → (k : ℕ) → HasDentate (state_at states k)
+dentate-at : (dentates : ℕ → ℕ) (states : List State) → ((s : ℕ) → dentates s ≤ 8) → IsWellFormed dentates states
+    → (k : ℕ) → HasDentate (state_at states k)
 dentate-at dentates states few formed k =
     elim (state_at states k) as (λ state. state_at states k ≡ state → HasDentate state) [
       | Vacant ↦ λ is. tt
@@ -49,7 +53,9 @@ pub counted : (dentates : ℕ → ℕ) (species : SpeciesId) (states : List Stat
     count_by (λ class. class == home_class species) (map class_of states) ≡ count_by (is_home_of species) states
 counted dentates species states few formed =
     count-homes species 0 states
-    (recursion_from_All HasDentate states (λ k d within. subst HasDentate (get_or_default states k Vacant d within) (dentate-at dentates states few formed k)))
+    (recursion_from_All HasDentate states
+    (λ k d within. subst HasDentate (get_or_default states k Vacant d within)
+    (dentate-at dentates states few formed k)))
 
 -- no species of a sound deck has more than eight dentates
 pub dentates-few : (deck : PlainDeck) → IsSound deck → (species : ℕ) → dentates_in deck.book species ≤ 8

@@ -29,19 +29,24 @@ pub record IsPlaced (deck : PlainDeck) (states : List State) (code : ℕ) (proce
   pub matches : is_match (state_at states) process.before sites ≡ true
   pub fires : (system_of deck).fires states code ≡ with_states (states_for process.after sites) states
 
-placed : (deck : PlainDeck) (states : List State) (code : ℕ) → length states ≡ site_count deck.graph → (o : IsOffered deck states code) → IsPlaced deck states code o.process o.sites
+placed : (deck : PlainDeck) (states : List State) (code : ℕ) → length states ≡ site_count deck.graph
+    → (o : IsOffered deck states code) → IsPlaced deck states code o.process o.sites
 unfolding is_placement
 placed deck states code len o =
     let split = both (is_placement deck.graph o.process.before o.sites) (is_match (state_at states) o.process.before o.sites) o.listed in
-    let edged = (both (are_sites deck.graph o.process.before o.sites && all_different o.sites && edges_fall deck.graph o.process.before o.sites) (types_agree deck.graph o.process.before o.sites) split.0).0 in
-    let apart = (both (are_sites deck.graph o.process.before o.sites && all_different o.sites) (edges_fall deck.graph o.process.before o.sites) edged).0 in
+    let edged = (both (are_sites deck.graph o.process.before o.sites && all_different o.sites
+    && edges_fall deck.graph o.process.before o.sites) (types_agree deck.graph o.process.before o.sites)
+    split.0).0 in
+    let apart = (both (are_sites deck.graph o.process.before o.sites && all_different o.sites)
+    (edges_fall deck.graph o.process.before o.sites) edged).0 in
     let parts = both (are_sites deck.graph o.process.before o.sites) (all_different o.sites) apart in
     let are = sites-from deck.graph o.process.before o.sites parts.0 in
     record {
       sound = o.sound;
       vertices = are.long;
       inside = subst (λ (n : ℕ). All (λ s. s < n) o.sites) (sym len) are.inside;
-      different = λ i j d below within e. different-places o.sites parts.1 i j below within (get_or_default o.sites i 0 d (omega arith) ∙ (e ∙ get_or_default o.sites j d 0 within));
+      different = λ i j d below within e. different-places o.sites parts.1 i j below within
+          (get_or_default o.sites i 0 d (omega arith) ∙ (e ∙ get_or_default o.sites j d 0 within));
       matches = split.1;
       fires = rw (o.at, o.found) refl;
     }
@@ -51,22 +56,30 @@ pub record IsNamed (deck : PlainDeck) (states : List State) (code : ℕ) (proces
   pub is_code : IsCode deck.graph process.before code (process_of code) sites
   pub placed : IsPlaced deck states code process sites
 
-pub named : (deck : PlainDeck) → IsSound deck → (states : List State) → length states ≡ site_count deck.graph → (code : ℕ) → Contains (codes_offered deck states) code →
+pub named : (deck : PlainDeck) → IsSound deck → (states : List State) → length states ≡ site_count deck.graph
+    → (code : ℕ) → Contains (codes_offered deck states) code →
     (process : PlainProcess) → slice_get deck.processes (process_of code) ≡ Some process → (sites : List ℕ) × IsNamed deck states code process sites
 named deck sound states len code offered process at =
     let o = (offers-well deck sound states len).offered code offered in
-    let same : o.process ≡ process = cc (o.at, at) in
-    (o.sites, subst (λ (p : PlainProcess). IsNamed deck states code p o.sites) same (record { is_code = o.is_code; placed = placed deck states code len o }))
+    let same : o.process ≡ process = cc (o.at, at) in (
+      o.sites,
+      subst (λ (p : PlainProcess). IsNamed deck states code p o.sites) same
+          (record { is_code = o.is_code; placed = placed deck states code len o }),
+    )
 
 -- the sites that the code is decoded to are those of the instance
-pub decoded : (deck : PlainDeck) → IsSound deck → (states : List State) → length states ≡ site_count deck.graph → (code : ℕ) → Contains (codes_offered deck states) code →
+pub decoded : (deck : PlainDeck) → IsSound deck → (states : List State) → length states ≡ site_count deck.graph
+    → (code : ℕ) → Contains (codes_offered deck states) code →
     (process : PlainProcess) → slice_get deck.processes (process_of code) ≡ Some process →
-    (sites : List ℕ) → ((number : ℕ) (others : List ℕ) → IsCode deck.graph process.before code number others → sites ≡ others) → IsPlaced deck states code process sites
+    (sites : List ℕ) → ((number : ℕ) (others : List ℕ) → IsCode deck.graph process.before code number others
+    → sites ≡ others) → IsPlaced deck states code process sites
 decoded deck sound states len code offered process at sites same =
     let n = named deck sound states len code offered process at in
     subst (λ (ss : List ℕ). IsPlaced deck states code process ss) (sym (same (process_of code) n.0 n.1.is_code)) n.1.placed
 
 -- the process of a code that is offered is there
-pub process_is_there : (deck : PlainDeck) → IsSound deck → (states : List State) → length states ≡ site_count deck.graph → (code : ℕ) → Contains (codes_offered deck states) code →
+pub process_is_there : (deck : PlainDeck) → IsSound deck → (states : List State)
+    → length states ≡ site_count deck.graph → (code : ℕ) → Contains (codes_offered deck states) code →
     process_of code < length deck.processes
-process_is_there deck sound states len code offered = slice_get_within deck.processes _ _ ((offers-well deck sound states len).offered code offered).at
+process_is_there deck sound states len code offered =
+    slice_get_within deck.processes _ _ ((offers-well deck sound states len).offered code offered).at

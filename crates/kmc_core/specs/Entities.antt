@@ -17,7 +17,8 @@ IsFewDentates (Holds entity species dentate) = (1 ≤ dentate) × (dentate ≤ 8
 -- a list has the site of the vertex that wants a dentate of the entity at the place of the dentate, that of dentate 1 first
 abbrev pub HasSites : List Wanted → List ℕ → ℕ → List ℕ → Type 0
 HasSites wanted sites entity own =
-    (place dentate : ℕ) (species : SpeciesId) → want_at wanted place ≡ Holds entity species dentate → slice_index own (dentate - 1) ≡ slice_index sites place
+    (place dentate : ℕ) (species : SpeciesId) → want_at wanted place ≡ Holds entity species dentate
+    → slice_index own (dentate - 1) ≡ slice_index sites place
 
 -- an entity of which the vertex at a place wants dentate 1: its species, and its sites in the order of its dentates
 pub record IsEntity (dentates : ℕ → ℕ) (wanted : List Wanted) (sites : List ℕ) (place : ℕ) (species : SpeciesId) (own : List ℕ) : Type 0 where

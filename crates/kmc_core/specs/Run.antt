@@ -36,7 +36,8 @@ pub record IsClosedAt (deck : PlainDeck) (event : ℕ) (snapshot : Snapshot (Lis
 
 -- At an event that has fired, `first` is what came first before it, and the states are those after it. The entries are
 -- still the old ones; those after the event are there, or not yet.
-pub record IsOpenAt (deck : PlainDeck) (event : ℕ) (first : ℕ × ℕ) (states : List State) (entries : List Entry) (after : Option (List Entry)) : Type 0 where
+pub record IsOpenAt (deck : PlainDeck) (event : ℕ) (first : ℕ × ℕ) (states : List State) (entries : List Entry)
+    (after : Option (List Entry)) : Type 0 where
   pub old : Snapshot (List State)
   pub closed : IsClosedAt deck (event - 1) old
   pub some : 1 ≤ event

@@ -1,4 +1,4 @@
-use kmc_base::Items;
+use kmc_base::Sequence;
 use lattice_core::Graph;
 use pattern_types::Pattern;
 use sim_deck::Plan;
@@ -33,5 +33,5 @@ pub struct PlainDeck {
     /// The number of gas species.
     pub gas: u8,
     /// The processes, in deck order; at most 1,024. A process has its place, from 0, as its number.
-    pub processes: Items<PlainProcess>,
+    pub processes: Sequence<PlainProcess>,
 }

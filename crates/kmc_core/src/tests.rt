@@ -6,7 +6,7 @@ ghost use Rattle.pattern_types.specs.Edges.{edge_set, joined};
 ghost use Rattle.sim_deck.specs.Soundness.{IsPeriod, IsSoundPlan};
 
 use crate::{Closed, Fired, PlainDeck, PlainProcess, Stop, Unclosed};
-use kmc_base::{Items, SiteId, SpeciesId};
+use kmc_base::{Sequence, SiteId, SpeciesId};
 use lattice_core::Graph;
 use pattern_types::{Pattern, Wanted};
 use sim_deck::{Plan, Sampling};
@@ -292,7 +292,7 @@ fn deck_of(
     requires few { length steps.now ≤ 1024 }
     ensures { IfOk result IsSound }
 {
-    let processes = Items::new(processes(alloc, steps, dentates)?);
+    let processes = Sequence::new(processes(alloc, steps, dentates)?);
     Ok(PlainDeck {
         temperature: 500_000,
         graph,

@@ -29,7 +29,8 @@ counts_more n m sites is =
     let e : m ≡ suc n = omega arith in
     let z : 0 + n ≡ n = omega arith in
     ap (λ (k : ℕ). counts_of k sites) e
-    ∙ (ap (map (count_of sites)) (range_more 0 n ∙ ap (λ (k : ℕ). range_with_len 0 n ++ k ∷ []) z) ∙ map-append (count_of sites) (range_with_len 0 n) (n ∷ []))
+    ∙ (ap (map (count_of sites)) (range_more 0 n ∙ ap (λ (k : ℕ). range_with_len 0 n ++ k ∷ []) z)
+    ∙ map-append (count_of sites) (range_with_len 0 n) (n ∷ []))
 
 -- no counts
 pub counts_none : (o : Option (Snapshot (List State))) → IfSome o (λ s. [] ≡ counts_of 0 s.state)

@@ -16,9 +16,11 @@ abbrev pub writes_from : ClosedRun → List Write
 writes_from run = flat_map (writes_at run.deck) (events_from run.deck run.event)
 
 -- the first writes failed
-pub before_fails : (read deck : PlainDeck) (fault : DriveFault) (x y : Option Outs) → read ≡ deck → Ended (writes_before read) fault x y → Ended (writes_of deck) fault x y
+pub before_fails : (read deck : PlainDeck) (fault : DriveFault) (x y : Option Outs) → read ≡ deck
+    → Ended (writes_before read) fault x y → Ended (writes_of deck) fault x y
 before_fails read deck fault x y is p =
-    ended_more (writes_before deck) (flat_map (writes_at deck) (events_from deck 0)) fault x y (subst (λ (d : PlainDeck). Ended (writes_before d) fault x y) is p)
+    ended_more (writes_before deck) (flat_map (writes_at deck) (events_from deck 0)) fault x y
+    (subst (λ (d : PlainDeck). Ended (writes_before d) fault x y) is p)
 
 -- the first writes were done, and then those at the events, or not all of them
 pub events_done : (read deck : PlainDeck) (run : ClosedRun) (x y z : Option Outs) → read ≡ deck → run ≡ record { deck = deck; event = 0 } →
@@ -27,7 +29,8 @@ events_done read deck run x y z is start p q =
     done_done (writes_before deck) (flat_map (writes_at deck) (events_from deck 0)) x y z
     (subst (λ (d : PlainDeck). Done (writes_before d) x y) is p) (subst (λ (r : ClosedRun). Done (writes_from r) y z) start q)
 
-pub events_fail : (read deck : PlainDeck) (run : ClosedRun) (fault : DriveFault) (x y z : Option Outs) → read ≡ deck → run ≡ record { deck = deck; event = 0 } →
+pub events_fail : (read deck : PlainDeck) (run : ClosedRun) (fault : DriveFault) (x y z : Option Outs) → read ≡ deck
+    → run ≡ record { deck = deck; event = 0 } →
     Done (writes_before read) x y → Ended (writes_from run) fault y z → Ended (writes_of deck) fault x z
 events_fail read deck run fault x y z is start p q =
     done_ended (writes_before deck) (flat_map (writes_at deck) (events_from deck 0)) fault x y z

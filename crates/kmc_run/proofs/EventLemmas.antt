@@ -34,7 +34,8 @@ later-next : (deck : PlainDeck) (left event : ℕ) → stop_of deck event ≡ No
 unfolding later
 later-next deck left event is = ap (λ s. if is_none s then events_after deck left (event + 1) else []) is
 
-next-events : (deck : PlainDeck) (event : ℕ) → stop_of deck event ≡ None → event < deck.plan.max_steps → events_from deck event ≡ event ∷ events_from deck (event + 1)
+next-events : (deck : PlainDeck) (event : ℕ) → stop_of deck event ≡ None → event < deck.plan.max_steps
+    → events_from deck event ≡ event ∷ events_from deck (event + 1)
 next-events deck event is lt =
     let left : deck.plan.max_steps - event ≡ suc (deck.plan.max_steps - (event + 1)) = omega arith in
     first-later deck (deck.plan.max_steps - event) event
@@ -59,16 +60,20 @@ passed_none deck first x = record { events = []; all = refl; done = done_none x 
 
 -- the writes of all events, by those that were passed and the present one
 whole : (deck : PlainDeck) (first event : ℕ) (events : List ℕ) → events ++ events_from deck event ≡ events_from deck first →
-    flat_map (writes_at deck) events ++ (writes_at deck event ++ flat_map (writes_at deck) (later deck (deck.plan.max_steps - event) event)) ≡ flat_map (writes_at deck) (events_from deck first)
+    flat_map (writes_at deck) events
+    ++ (writes_at deck event ++ flat_map (writes_at deck) (later deck (deck.plan.max_steps - event) event))
+    ≡ flat_map (writes_at deck) (events_from deck first)
 whole deck first event events all =
     ap (λ es. flat_map (writes_at deck) events ++ flat_map (writes_at deck) es) (sym (first-later deck (deck.plan.max_steps - event) event))
     ∙ (sym (flat-append (writes_at deck) events (events_from deck event)) ∙ ap (flat_map (writes_at deck)) all)
 
-one_more : (deck : PlainDeck) (event : ℕ) (events : List ℕ) (x y z : Option Outs) → Done (flat_map (writes_at deck) events) x y → Done (writes_at deck event) y z →
+one_more : (deck : PlainDeck) (event : ℕ) (events : List ℕ) (x y z : Option Outs)
+    → Done (flat_map (writes_at deck) events) x y → Done (writes_at deck event) y z →
     Done (flat_map (writes_at deck) (events ++ event ∷ [])) x z
 one_more deck event events x y z p q =
     subst (λ (ws : List Write). Done ws x z)
-    (ap (λ ws. flat_map (writes_at deck) events ++ ws) (sym (append-nil (writes_at deck event))) ∙ sym (flat-append (writes_at deck) events (event ∷ [])))
+    (ap (λ ws. flat_map (writes_at deck) events ++ ws) (sym (append-nil (writes_at deck event)))
+    ∙ sym (flat-append (writes_at deck) events (event ∷ [])))
     (done_done (flat_map (writes_at deck) events) (writes_at deck event) x y z p q)
 
 -- one more event is passed
@@ -81,22 +86,28 @@ passed_one deck first event x y z p q is lt = record {
 }
 
 -- the last event is passed: all is written
-pub passed_last : (deck : PlainDeck) (first event : ℕ) (stop : Stop) (x y z : Option Outs) → Passed deck first event x y → Done (writes_at deck event) y z →
+pub passed_last : (deck : PlainDeck) (first event : ℕ) (stop : Stop) (x y z : Option Outs)
+    → Passed deck first event x y → Done (writes_at deck event) y z →
     stop_of deck event ≡ Some stop → Done (flat_map (writes_at deck) (events_from deck first)) x z
 passed_last deck first event stop x y z p q is =
-    subst (λ (es : List ℕ). Done (flat_map (writes_at deck) es) x z) (ap (λ es. p.events ++ es) (sym (last-event deck event stop is)) ∙ p.all) (one_more deck event p.events x y z p.done q)
+    subst (λ (es : List ℕ). Done (flat_map (writes_at deck) es) x z)
+    (ap (λ es. p.events ++ es) (sym (last-event deck event stop is)) ∙ p.all)
+    (one_more deck event p.events x y z p.done q)
 
-pub passed_end : (deck : PlainDeck) (first event : ℕ) (stop : Stop) (x y : Option Outs) → Passed deck first event x y → stop_of deck event ≡ Some stop →
+pub passed_end : (deck : PlainDeck) (first event : ℕ) (stop : Stop) (x y : Option Outs) → Passed deck first event x y
+    → stop_of deck event ≡ Some stop →
     (es : List ℕ) × (events_from deck first ≡ es ++ event ∷ [])
 passed_end deck first event stop x y p is = (p.events, sym p.all ∙ ap (λ es. p.events ++ es) (last-event deck event stop is))
 
 -- a write at the present event failed
-pub passed_fails : (deck : PlainDeck) (first event : ℕ) (fault : DriveFault) (x y z : Option Outs) → Passed deck first event x y → Ended (writes_at deck event) fault y z →
+pub passed_fails : (deck : PlainDeck) (first event : ℕ) (fault : DriveFault) (x y z : Option Outs)
+    → Passed deck first event x y → Ended (writes_at deck event) fault y z →
     Ended (flat_map (writes_at deck) (events_from deck first)) fault x z
 passed_fails deck first event fault x y z p q =
     let others = flat_map (writes_at deck) (later deck (deck.plan.max_steps - event) event) in
     subst (λ (ws : List Write). Ended ws fault x z) (whole deck first event p.events p.all)
-    (done_ended (flat_map (writes_at deck) p.events) (writes_at deck event ++ others) fault x y z p.done (ended_more (writes_at deck event) others fault y z q))
+    (done_ended (flat_map (writes_at deck) p.events) (writes_at deck event ++ others) fault x y z p.done
+    (ended_more (writes_at deck event) others fault y z q))
 
 -- there was no memory for the next event
 pub passed_stops : (deck : PlainDeck) (first event : ℕ) (x y z : Option Outs) → Passed deck first event x y → Done (writes_at deck event) y z →
@@ -108,10 +119,12 @@ passed_stops deck first event x y z p q =
     (subst (λ (ws : List Write). Ended ws OutOfMemory y z) refl (done_ended (writes_at deck event) others OutOfMemory y z z q (ended_none others z))))
 
 -- the same deck, as it was read from the run
-pub done_at : (read deck : PlainDeck) (event : ℕ) (x y : Option Outs) → read ≡ deck → Done (writes_at read event) x y → Done (writes_at deck event) x y
+pub done_at : (read deck : PlainDeck) (event : ℕ) (x y : Option Outs) → read ≡ deck → Done (writes_at read event) x y
+    → Done (writes_at deck event) x y
 done_at read deck event x y is p = subst (λ (d : PlainDeck). Done (writes_at d event) x y) is p
 
-pub ended_at : (read deck : PlainDeck) (event : ℕ) (fault : DriveFault) (x y : Option Outs) → read ≡ deck → Ended (writes_at read event) fault x y → Ended (writes_at deck event) fault x y
+pub ended_at : (read deck : PlainDeck) (event : ℕ) (fault : DriveFault) (x y : Option Outs) → read ≡ deck
+    → Ended (writes_at read event) fault x y → Ended (writes_at deck event) fault x y
 ended_at read deck event fault x y is p = subst (λ (d : PlainDeck). Ended (writes_at d event) fault x y) is p
 
 pub stop_of_at : (read deck : PlainDeck) (event : ℕ) (stop : Option Stop) → read ≡ deck → stop_of read event ≡ stop → stop_of deck event ≡ stop
@@ -120,5 +133,7 @@ stop_of_at read deck event stop is p = subst (λ (d : PlainDeck). stop_of d even
 pub passed_at : (deck : PlainDeck) (first event now : ℕ) (x y : Option Outs) → event ≡ now → Passed deck first event x y → Passed deck first now x y
 passed_at deck first event now x y is p = subst (λ (n : ℕ). Passed deck first n x y) is p
 
-pub end_at : (deck : PlainDeck) (first event now : ℕ) → event ≡ now → (es : List ℕ) × (events_from deck first ≡ es ++ event ∷ []) → (es : List ℕ) × (events_from deck first ≡ es ++ now ∷ [])
+pub end_at : (deck : PlainDeck) (first event now : ℕ) → event ≡ now
+    → (es : List ℕ) × (events_from deck first ≡ es ++ event ∷ [])
+    → (es : List ℕ) × (events_from deck first ≡ es ++ now ∷ [])
 end_at deck first event now is p = subst (λ (n : ℕ). (es : List ℕ) × (events_from deck first ≡ es ++ n ∷ [])) is p

@@ -45,7 +45,8 @@ pub record HasDentates (book : Book) : Type 0 where
   pub range : All (λ d. (1 ≤ d) × (d ≤ 8)) book.dentates
   pub one_each : length book.dentates ≡ length book.surface
 
-whole_want : (book : Book) → HasDentates book → (state : Option SpeciesId) → IsPlainState book state → IsWholeWant (dentates_in book) (wanted_of state ∷ []) (wanted_of state)
+whole_want : (book : Book) → HasDentates book → (state : Option SpeciesId) → IsPlainState book state
+    → IsWholeWant (dentates_in book) (wanted_of state ∷ []) (wanted_of state)
 whole_want book has None plain = tt
 whole_want book has (Some species) plain =
     let known = plain species refl in
@@ -59,10 +60,15 @@ whole_want book has (Some species) plain =
 sound_side : (book : Book) → HasDentates book → (state : Option SpeciesId) → IsPlainState book state → IsSoundSide (dentates_in book) (side_of state)
 sound_side book has state plain =
     subst (IsSoundSide (dentates_in book)) (sym (is_one_vertex state))
-    (record { pattern = is_pattern (wanted_of state); whole = all_one (IsWholeWant (dentates_in book) (wanted_of state ∷ [])) (wanted_of state) (whole_want book has state plain) })
+    (record {
+      pattern = is_pattern (wanted_of state);
+      whole = all_one (IsWholeWant (dentates_in book) (wanted_of state ∷ [])) (wanted_of state)
+          (whole_want book has state plain);
+    })
 
 -- the processes of plain steps are sound
-pub sound_steps : (book : Book) → HasDentates book → (steps : List Step) → AllByRecursion (IsPlainStep book) steps → AllByRecursion (IsSoundProcess (dentates_in book)) (map plain_process steps)
+pub sound_steps : (book : Book) → HasDentates book → (steps : List Step) → AllByRecursion (IsPlainStep book) steps
+    → AllByRecursion (IsSoundProcess (dentates_in book)) (map plain_process steps)
 sound_steps book has [] all = tt
 sound_steps book has (step ∷ steps) all = (
   record {

@@ -81,12 +81,14 @@ fails_one w None (Some y) p = absurd p
 fails_one w (Some x) (Some y) p = record { done = []; next = w; others = []; all = refl; of = refl; left = p }
 
 -- the same of a result: writes that were done, and then others that may stop
-pub ended_then : (a b : List Write) (x y z : Option Outs) (r : Result (Unit {0}) DriveFault) → Done a x y → IfErr r (λ fault. Ended b fault y z) → IfErr r (λ fault. Ended (a ++ b) fault x z)
+pub ended_then : (a b : List Write) (x y z : Option Outs) (r : Result (Unit {0}) DriveFault) → Done a x y
+    → IfErr r (λ fault. Ended b fault y z) → IfErr r (λ fault. Ended (a ++ b) fault x z)
 ended_then a b x y z (Ok u) p q = tt
 ended_then a b x y z (Err fault) p q = done_ended a b fault x y z p q
 
 -- the same of a last piece, by the text that it is
-pub append_then : (a : List Write) (out : OutId) (text piece : List ℕ) (x y z : Option Outs) (r : Result (Unit {0}) DriveFault) → piece ≡ text → Done a x y →
+pub append_then : (a : List Write) (out : OutId) (text piece : List ℕ) (x y z : Option Outs)
+    (r : Result (Unit {0}) DriveFault) → piece ≡ text → Done a x y →
     IfErr r (λ fault. Ended (Append out piece ∷ []) fault y z) → IfErr r (λ fault. Ended (a ++ Append out text ∷ []) fault x z)
 append_then a out text piece x y z r is p q =
     ended_then a (Append out text ∷ []) x y z r p (subst (λ (t : List ℕ). IfErr r (λ fault. Ended (Append out t ∷ []) fault y z)) is q)
@@ -98,5 +100,6 @@ ended_as a b fault x y is p = subst (λ (ws : List Write). Ended ws fault x y) i
 pub ok_as : (a b : List Write) (x y : Option Outs) (r : Result (Unit {0}) DriveFault) → a ≡ b → OnOk r (Done a x y) → OnOk r (Done b x y)
 ok_as a b x y r is p = subst (λ (ws : List Write). OnOk r (Done ws x y)) is p
 
-pub err_as : (a b : List Write) (x y : Option Outs) (r : Result (Unit {0}) DriveFault) → a ≡ b → IfErr r (λ fault. Ended a fault x y) → IfErr r (λ fault. Ended b fault x y)
+pub err_as : (a b : List Write) (x y : Option Outs) (r : Result (Unit {0}) DriveFault) → a ≡ b
+    → IfErr r (λ fault. Ended a fault x y) → IfErr r (λ fault. Ended b fault x y)
 err_as a b x y r is p = subst (λ (ws : List Write). IfErr r (λ fault. Ended ws fault x y)) is p

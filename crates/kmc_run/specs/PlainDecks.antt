@@ -1,12 +1,13 @@
 -- The deck that four texts stand for, or its first fault. A file is "built" where kmc can run what it asks for today.
-use Rattle.std.specs.Prelude.{◌≡◌, ℕ, ◌*◌, ◌^◌, ◌&&◌, Bool, true, false, not, List, [], ◌∷◌, map, Option, None, Some, Result, Ok, Err, if◌then◌else◌, is_none, length, pos}
+use Rattle.std.specs.Prelude.{◌≡◌, ℕ, ◌*◌, ◌^◌, ◌&&◌, Bool, true, false, not, List, [], ◌∷◌, map, Option, None, Some, Result, Ok, Err}
+use Rattle.std.specs.Prelude.{if◌then◌else◌, is_none, length, pos}
 use Rattle.deck_shape.specs.LineFaults.{block_of_text}
 use Rattle.deck_shape.specs.Names.{NameWord}
 use Rattle.deck_shape.specs.declared.fault.DeckFault.{DeckFault}
 use Rattle.deck_shape.specs.declared.fault.DeckFault.TheVariants.{Fault as Faulty, OutOfMemory}
 use Rattle.deck_shape.specs.declared.fault.Fault.{Fault}
 use Rattle.deck_shape.specs.declared.kind.TheConstants.{FILE_ABSENT, FILE_TOO_LONG, NOT_BUILT}
-use Rattle.deck_shape.specs.declared.table.BlockKind.TheVariants.{Simulation as SimulationBlock, LatticeFile as LatticeBlock}
+use Rattle.deck_shape.specs.declared.table.BlockForm.TheVariants.{Simulation as SimulationBlock, LatticeFile as LatticeBlock}
 use Rattle.fixed_math.specs.DecimalLogarithm.{lg_of_decimal}
 use Rattle.kmc_base.specs.Files.{Files}
 use Rattle.kmc_base.specs.declared.ids.FileId.{FileId}

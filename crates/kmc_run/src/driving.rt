@@ -12,7 +12,7 @@ use crate::counting::adsorbates;
 use crate::drive_fault::DriveFault;
 use crate::summary::Summary;
 use crate::writing;
-use kmc_base::{Folder, Gate, Items, OutOfMemory};
+use kmc_base::{Folder, Gate, Sequence, OutOfMemory};
 use kmc_core::{Closed, Fired, PlainDeck, Stop, Unclosed};
 use std::alloc::Global;
 use std::marker::Sync;
@@ -69,8 +69,8 @@ fn summary_of(alloc: Global, last: &Closed, stop: Stop) -> Result<Summary, OutOf
         events: last.event(),
         time: last.time(),
         energy: 0,
-        surface: Items::new(surface),
-        gas: Items::new(gas),
+        surface: Sequence::new(surface),
+        gas: Sequence::new(gas),
         stop,
     })
 }

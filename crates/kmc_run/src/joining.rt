@@ -20,7 +20,7 @@ use crate::texts::{Text, Texts};
 use deck_shape::kind::{FILE_ABSENT, FILE_TOO_LONG, NOT_BUILT};
 use deck_shape::{DeckFault, Fault, Name, read_shape};
 use fixed_math::lg_decimal;
-use kmc_base::{FileId, Items, OutOfMemory, SpeciesId};
+use kmc_base::{FileId, Sequence, OutOfMemory, SpeciesId};
 use kmc_core::{PlainDeck, PlainProcess};
 use lattice_core::Graph;
 use lattice_deck::{LatticePart, unknown_type};
@@ -236,7 +236,7 @@ fn join(
         plan: part.plan,
         book,
         gas,
-        processes: Items::new(processes),
+        processes: Sequence::new(processes),
     })
 }
 

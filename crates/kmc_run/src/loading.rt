@@ -7,7 +7,7 @@ ghost use Rattle.kmc_run.specs.Texts.{IsShort, text_of, texts_of};
 
 use crate::status::Status;
 use crate::texts::{Text, Texts};
-use kmc_base::{FileId, Folder, Items, LoadFault};
+use kmc_base::{FileId, Folder, Sequence, LoadFault};
 use std::alloc::Global;
 
 /// The greatest number of bytes of an input file.
@@ -29,7 +29,7 @@ fn load_text<F: Folder>(alloc: Global, folder: &mut F, file: FileId) -> Result<T
     ensures loads { F.loads folder.new ≡ option_map one_call_more (F.loads folder.old) }
 {
     match folder.load(alloc, file, MAX_BYTES) {
-        Ok(bytes) if bytes.len() <= MAX_BYTES => Ok(Text::Bytes(Items::new(bytes))),
+        Ok(bytes) if bytes.len() <= MAX_BYTES => Ok(Text::Bytes(Sequence::new(bytes))),
         Ok(_) | Err(LoadFault::TooLong) => Ok(Text::TooLong),
         Err(LoadFault::Absent) => Ok(Text::Absent),
         Err(LoadFault::Failed) => Err(Status::ReadFault(file)),

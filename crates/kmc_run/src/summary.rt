@@ -1,4 +1,4 @@
-use kmc_base::Items;
+use kmc_base::Sequence;
 use kmc_core::Stop;
 
 /// What a run came to.
@@ -11,9 +11,9 @@ pub struct Summary {
     /// The energy of the lattice at the end, in neV. It is 0 as long as adsorbates do not interact.
     pub energy: i128,
     /// The number of adsorbates of each surface species at the end.
-    pub surface: Items<u64>,
+    pub surface: Sequence<u64>,
     /// The gas molecules of each species produced, less those consumed.
-    pub gas: Items<i64>,
+    pub gas: Sequence<i64>,
     /// Why the run ended.
     pub stop: Stop,
 }

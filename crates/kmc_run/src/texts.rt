@@ -1,4 +1,4 @@
-use kmc_base::Items;
+use kmc_base::Sequence;
 
 /// The text of an input file.
 #[derive(Debug, Drop)]
@@ -8,7 +8,7 @@ pub(crate) enum Text {
     /// It has more than 16,777,216 bytes.
     TooLong,
     /// Its bytes.
-    Bytes(Items<u8>),
+    Bytes(Sequence<u8>),
 }
 
 /// The texts of the four files of a deck.

@@ -1,5 +1,6 @@
 -- What joins have joined after some cells, and after some of them.
-use Rattle.std.proofs.Common.{◌≡◌, ℕ, ◌+◌, ◌*◌, ◌<◌, ◌≤◌, Bool, true, false, ◌&&◌, ◌||◌, eqb, List, [], ◌∷◌, length, get_or, take, refl, sym, ◌∙◌, ap, arith}
+use Rattle.std.proofs.Common.{◌≡◌, ℕ, ◌+◌, ◌*◌, ◌<◌, ◌≤◌, Bool, true, false, ◌&&◌, ◌||◌, eqb, List, [], ◌∷◌, length, get_or, take, refl}
+use Rattle.std.proofs.Common.{sym, ◌∙◌, ap, arith}
 use Rattle.std.specs.List.{list_any, range_with_len}
 use Rattle.std.proofs.Math.Bool.{or_comm}
 use Rattle.std.proofs.lemmas.List.{take_all}
@@ -10,7 +11,8 @@ use Rattle.lattice_cell.specs.Cells.{displaced, site_at}
 use Rattle.lattice_cell.specs.Periodic.{joins_at, joins_sites, are_joined}
 
 -- one more number
-pub any_below_more : (g : ℕ → Bool) (n i : ℕ) → i < n → (list_any g (take i (range_with_len 0 n)) || g i) ≡ list_any g (take (i + 1) (range_with_len 0 n))
+pub any_below_more : (g : ℕ → Bool) (n i : ℕ) → i < n
+    → (list_any g (take i (range_with_len 0 n)) || g i) ≡ list_any g (take (i + 1) (range_with_len 0 n))
 any_below_more g n i within =
     let r = range_with_len 0 n in
     let at : get_or r i 0 ≡ i = omega (arith, get_or-range_with_len 0 n i 0 within) in
@@ -33,7 +35,9 @@ list_any-or p q [] = refl
 list_any-or p q (x ∷ xs) = ap (λ b. (p x || q x) || b) (list_any-or p q xs) ∙ or_regroup (p x) (q x) (list_any p xs) (list_any q xs)
 
 -- in all cells a join joins two sites in one order or in the other
-pub joins_cells : (nx ny sites : ℕ) (join : Join) (s t : ℕ) → list_any (λ c. joins_at nx ny sites join s t c || joins_at nx ny sites join t s c) (range_with_len 0 (nx * ny)) ≡ (joins_sites nx ny sites join s t || joins_sites nx ny sites join t s)
+pub joins_cells : (nx ny sites : ℕ) (join : Join) (s t : ℕ)
+    → list_any (λ c. joins_at nx ny sites join s t c || joins_at nx ny sites join t s c) (range_with_len 0 (nx * ny))
+    ≡ (joins_sites nx ny sites join s t || joins_sites nx ny sites join t s)
 unfolding joins_sites
 joins_cells nx ny sites join s t = list_any-or (joins_at nx ny sites join s t) (joins_at nx ny sites join t s) (range_with_len 0 (nx * ny))
 
@@ -50,17 +54,24 @@ are_joined-flip nx ny sites (j ∷ js) s t =
 abbrev pub joined_by : ℕ → ℕ → ℕ → List Join → ℕ → ℕ → Bool
 joined_by nx ny sites joins s t = list_any (λ join. joins_sites nx ny sites join s t || joins_sites nx ny sites join t s) joins
 
-pub joined_by-all : (nx ny sites : ℕ) (joins : List Join) (i s t : ℕ) → length joins ≤ i → joined_by nx ny sites (take i joins) s t ≡ are_joined nx ny sites joins s t
+pub joined_by-all : (nx ny sites : ℕ) (joins : List Join) (i s t : ℕ) → length joins ≤ i
+    → joined_by nx ny sites (take i joins) s t ≡ are_joined nx ny sites joins s t
 unfolding are_joined
 joined_by-all nx ny sites joins i s t past = ap (λ l. joined_by nx ny sites l s t) (take_all i joins past)
 
 -- one more of the joins
-pub joined_by-more : (nx ny sites : ℕ) (joins : List Join) (i : ℕ) (default : Join) (s t : ℕ) → i < length joins → (joined_by nx ny sites (take i joins) s t || (joins_sites nx ny sites (get_or joins i default) s t || joins_sites nx ny sites (get_or joins i default) t s)) ≡ joined_by nx ny sites (take (i + 1) joins) s t
+pub joined_by-more : (nx ny sites : ℕ) (joins : List Join) (i : ℕ) (default : Join) (s t : ℕ) → i < length joins
+    → (joined_by nx ny sites (take i joins) s t
+    || (joins_sites nx ny sites (get_or joins i default) s t || joins_sites nx ny sites (get_or joins i default) t s))
+    ≡ joined_by nx ny sites (take (i + 1) joins) s t
 joined_by-more nx ny sites joins i default s t within =
     sym (list_any_more (λ j. joins_sites nx ny sites j s t || joins_sites nx ny sites j t s) joins i default within)
 
 -- the sites that a join joins in a cell
-pub joins_here : (nx ny sites : ℕ) (join : Join) (cell s t a b : ℕ) → s ≡ site_at sites cell join.from → t ≡ site_at sites (displaced nx ny join.toward cell) join.to → (eqb s a && eqb t b || eqb s b && eqb t a) ≡ (joins_at nx ny sites join a b cell || joins_at nx ny sites join b a cell)
+pub joins_here : (nx ny sites : ℕ) (join : Join) (cell s t a b : ℕ) → s ≡ site_at sites cell join.from
+    → t ≡ site_at sites (displaced nx ny join.toward cell) join.to
+    → (eqb s a && eqb t b || eqb s b && eqb t a)
+    ≡ (joins_at nx ny sites join a b cell || joins_at nx ny sites join b a cell)
 joins_here nx ny sites join cell s t a b first second =
     ap (λ x. eqb x a && eqb t b || eqb x b && eqb t a) first
     ∙ ap (λ y. eqb (site_at sites cell join.from) a && eqb y b || eqb (site_at sites cell join.from) b && eqb y a) second

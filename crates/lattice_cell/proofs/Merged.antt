@@ -17,18 +17,25 @@ module _ (nx ny sites : ℕ) (joins : List Join) where
   -- there is a list for each site
   pub length-neighbour_lists : length (neighbour_lists nx ny sites joins) ≡ nx * ny * sites
   unfolding neighbour_lists
-  length-neighbour_lists = length-map-range_with_len (λ s. filter (are_joined nx ny sites joins s) (range_with_len 0 (nx * ny * sites))) 0 (nx * ny * sites)
+  length-neighbour_lists =
+      length-map-range_with_len (λ s. filter (are_joined nx ny sites joins s) (range_with_len 0 (nx * ny * sites))) 0
+      (nx * ny * sites)
 
   -- the list of a site
-  list_of-neighbour_lists : (s : ℕ) → s < nx * ny * sites → list_of (neighbour_lists nx ny sites joins) s ≡ filter (are_joined nx ny sites joins s) (range_with_len 0 (nx * ny * sites))
+  list_of-neighbour_lists : (s : ℕ) → s < nx * ny * sites
+      → list_of (neighbour_lists nx ny sites joins) s ≡ filter (are_joined nx ny sites joins s)
+      (range_with_len 0 (nx * ny * sites))
   unfolding neighbour_lists
-  list_of-neighbour_lists s within = get_or-map-range_with_len (λ k. filter (are_joined nx ny sites joins k) (range_with_len 0 (nx * ny * sites))) 0 (nx * ny * sites) s s [] within (omega arith)
+  list_of-neighbour_lists s within =
+      get_or-map-range_with_len (λ k. filter (are_joined nx ny sites joins k) (range_with_len 0 (nx * ny * sites))) 0
+      (nx * ny * sites) s s [] within (omega arith)
 
   -- and none past the last site
   list_of-past : (s : ℕ) → nx * ny * sites ≤ s → list_of (neighbour_lists nx ny sites joins) s ≡ []
   list_of-past s past = get_or_past (neighbour_lists nx ny sites joins) s [] (omega (arith, length-neighbour_lists))
 
-  module _ (lists : List (List ℕ)) (count : length lists ≡ nx * ny * sites) (named : (s t : ℕ) → is_listed (list_of lists s) t ≡ are_joined nx ny sites joins s t) where
+  module _ (lists : List (List ℕ)) (count : length lists ≡ nx * ny * sites)
+      (named : (s t : ℕ) → is_listed (list_of lists s) t ≡ are_joined nx ny sites joins s t) where
     -- a site that has neighbours is a site of the lattice
     first_inside : (s t : ℕ) → are_joined nx ny sites joins s t ≡ true → s < nx * ny * sites
     first_inside s t joined =
@@ -47,7 +54,9 @@ module _ (nx ny sites : ℕ) (joins : List Join) where
     kept s t =
         elim (cases_Bool (are_joined nx ny sites joins s t)) [
           | inl joined ↦ let below : t < 0 + nx * ny * sites = omega (arith, second_inside s t joined) in
-              let inside : is_listed (range_with_len 0 (nx * ny * sites)) t ≡ true = is_listed-range 0 (nx * ny * sites) t ∙ and_from _ _ (le-leb 0 t (omega arith)) (lt-ltb t (0 + nx * ny * sites) below) in
+              let inside : is_listed (range_with_len 0 (nx * ny * sites)) t ≡ true =
+              is_listed-range 0 (nx * ny * sites) t
+              ∙ and_from _ _ (le-leb 0 t (omega arith)) (lt-ltb t (0 + nx * ny * sites) below) in
               and_from _ _ inside joined ∙ sym joined
           | inr apart ↦ and_right _ _ apart ∙ sym apart
         ]
@@ -55,7 +64,8 @@ module _ (nx ny sites : ℕ) (joins : List Join) where
     rises : (s : ℕ) → IsStrictlyIncreasing (list_of (neighbour_lists nx ny sites joins) s)
     rises s =
         elim (cases_lt s (nx * ny * sites)) [
-          | inl within ↦ rw (list_of-neighbour_lists s within) (IsStrictlyIncreasing-filter (are_joined nx ny sites joins s) _ (range-rising 0 (nx * ny * sites)))
+          | inl within ↦ rw (list_of-neighbour_lists s within)
+              (IsStrictlyIncreasing-filter (are_joined nx ny sites joins s) _ (range-rising 0 (nx * ny * sites)))
           | inr past ↦ rw (list_of-past s past) (λ k h. absurd (omega arith))
         ]
 

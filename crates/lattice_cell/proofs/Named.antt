@@ -19,7 +19,9 @@ listed_end xs t b =
     ∙ ap (λ c. is_listed (site_numbers xs) b || c) (or-false (eqb t b))
 
 -- one more in the list of a site
-pub names-add : (lists : List (Vec SiteId Global)) (s t : ℕ) (old new : Vec SiteId Global) → s < length lists → old ≡ get_or lists s old → new.items ≡ old.items ++ record { 0 = t } ∷ [] → NamesMore lists (set lists s new) (λ a b. eqb s a && eqb t b)
+pub names-add : (lists : List (Vec SiteId Global)) (s t : ℕ) (old new : Vec SiteId Global) → s < length lists
+    → old ≡ get_or lists s old → new.items ≡ old.items ++ record { 0 = t } ∷ []
+    → NamesMore lists (set lists s new) (λ a b. eqb s a && eqb t b)
 names-add lists s t old new within was is = λ a b.
     elim (cases_eq a s) [
       | inl e ↦ subst (λ k. names (set lists s new) k b ≡ (names lists k b || (eqb s k && eqb t b))) (sym e)
@@ -30,6 +32,7 @@ names-add lists s t old new within was is = λ a b.
     ]
 
 -- what is added first and what is added next
-pub NamesMore-then : (a b c : List (Vec SiteId Global)) (p q r : ℕ → ℕ → Bool) → NamesMore a b p → NamesMore b c q → ((s t : ℕ) → (p s t || q s t) ≡ r s t) → NamesMore a c r
+pub NamesMore-then : (a b c : List (Vec SiteId Global)) (p q r : ℕ → ℕ → Bool) → NamesMore a b p → NamesMore b c q
+    → ((s t : ℕ) → (p s t || q s t) ≡ r s t) → NamesMore a c r
 NamesMore-then a b c p q r first next both = λ s t.
     next s t ∙ ap (λ x. x || q s t) (first s t) ∙ or_assoc (names a s t) (p s t) (q s t) ∙ ap (λ x. names a s t || x) (both s t)

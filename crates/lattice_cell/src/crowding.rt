@@ -1,7 +1,7 @@
 ghost use Rattle.std.specs.Prelude.{◌≡◌, ◌*◌, ◌≤◌, ℕ, List, All, IfOk, length, nat_lt};
 ghost use Rattle.std.specs.List.{list_any};
 ghost use Rattle.std.specs.List.Sorted.{IsStrictlyIncreasing};
-ghost use Rattle.kmc_base.specs.declared.ids.TheConstants.{MAX_SITES};
+ghost use Rattle.kmc_base.specs.declared.limits.TheConstants.{MAX_SITES};
 ghost use Rattle.lattice_core.specs.SiteList.{site_numbers, number_lists, is_listed, AreMerged};
 ghost use Rattle.lattice_cell.specs.Cells.{IsInCell};
 ghost use Rattle.lattice_cell.specs.Periodic.{neighbour_lists};

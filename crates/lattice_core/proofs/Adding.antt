@@ -16,7 +16,8 @@ Adds-then a b c p q r first next both s =
     next s ∙ ap (λ x. x || q s) (first s) ∙ or_assoc (is_listed a s) (p s) (q s) ∙ ap (λ x. is_listed a s || x) (both s)
 
 -- one more of a list
-pub is_listed-more : (xs : List ℕ) (i x s : ℕ) → i < length xs → get_or xs i 0 ≡ x → (is_listed (take i xs) s || eqb x s) ≡ is_listed (take (i + 1) xs) s
+pub is_listed-more : (xs : List ℕ) (i x s : ℕ) → i < length xs → get_or xs i 0 ≡ x
+    → (is_listed (take i xs) s || eqb x s) ≡ is_listed (take (i + 1) xs) s
 is_listed-more xs i x s within is =
     sym (list_any_more (λ t. eqb t s) xs i 0 within ∙ ap (λ y. is_listed (take i xs) s || eqb y s) is)
 
@@ -38,7 +39,10 @@ pub number_read : (xs : List SiteId) (i : ℕ) (x : SiteId) → i < length xs �
 number_read xs i x within is = get_or-map (λ (s : SiteId). s.0) xs i x 0 within ∙ ap (λ (s : SiteId). s.0) (sym is)
 
 -- one more of what stands from a place on
-pub any_more : (g : ℕ → Bool) (xs : List ℕ) (first place x : ℕ) → first ≤ place → place < length xs → get_or xs place 0 ≡ x → (list_any g (take (place - first) (drop first xs)) || g x) ≡ list_any g (take (place + 1 - first) (drop first xs))
+pub any_more : (g : ℕ → Bool) (xs : List ℕ) (first place x : ℕ) → first ≤ place → place < length xs
+    → get_or xs place 0 ≡ x
+    → (list_any g (take (place - first) (drop first xs)) || g x)
+    ≡ list_any g (take (place + 1 - first) (drop first xs))
 any_more g xs first place x late within is =
     let next : place - first + 1 ≡ place + 1 - first = omega arith in
     let here : first + (place - first) ≡ place = omega arith in

@@ -1,5 +1,6 @@
 -- The first fault, by cases; lists that name the same have the same; and lists without one make a lattice.
-use Rattle.std.proofs.Common.{◌≡◌, ℕ, ◌+◌, ◌<◌, ◌≤◌, true, false, cond, List, [], ◌∷◌, length, get_or, drop, is_some, Option, Some, None, inl, inr, refl, sym, subst, eqb, ◌∙◌, ap, arith}
+use Rattle.std.proofs.Common.{◌≡◌, ℕ, ◌+◌, ◌<◌, ◌≤◌, true, false, cond, List, [], ◌∷◌, length, get_or, drop, is_some, Option, Some, None}
+use Rattle.std.proofs.Common.{inl, inr, refl, sym, subst, eqb, ◌∙◌, ap, arith}
 use Rattle.std.specs.List.{range_with_len}
 use Rattle.std.specs.Option.{option_map}
 use Rattle.std.proofs.lemmas.Bool.{cases_Bool, cond-true, cond-false, or_cases, eqb-true, false≢true, both_ways}
@@ -23,7 +24,8 @@ module _ (lists : List (List ℕ)) (s : ℕ) where
   unfolding site_fault
   fault-too_many bad own many = cond-false _ _ _ bad ∙ cond-false _ _ _ own ∙ cond-true _ _ _ many
 
-  pub fault-one_sided : has_bad_site lists s ≡ false → has_itself lists s ≡ false → has_too_many lists s ≡ false → site_fault lists s ≡ option_map (OneSided s) (one_sided lists s)
+  pub fault-one_sided : has_bad_site lists s ≡ false → has_itself lists s ≡ false → has_too_many lists s ≡ false
+      → site_fault lists s ≡ option_map (OneSided s) (one_sided lists s)
   unfolding site_fault
   fault-one_sided bad own many = cond-false _ _ _ bad ∙ cond-false _ _ _ own ∙ cond-false _ _ _ many
 
@@ -32,19 +34,25 @@ none_from_is_some None h = refl
 none_from_is_some (Some x) h = absurd (false≢true (sym h))
 
 -- the faults from a site on are its own, or those after it
-fault_step : (lists : List (List ℕ)) (i : ℕ) → i < length lists → fault_among lists (drop i (range_with_len 0 (length lists))) ≡ cond (is_some (site_fault lists i)) (site_fault lists i) (fault_among lists (drop (i + 1) (range_with_len 0 (length lists))))
+fault_step : (lists : List (List ℕ)) (i : ℕ) → i < length lists
+    → fault_among lists (drop i (range_with_len 0 (length lists))) ≡ cond (is_some (site_fault lists i))
+    (site_fault lists i) (fault_among lists (drop (i + 1) (range_with_len 0 (length lists))))
 fault_step lists i within =
     let r = range_with_len 0 (length lists) in
     let e : get_or r i 0 ≡ i = omega (arith, get_or-range_with_len 0 (length lists) i 0 within) in
     let long : i < length r = omega (arith, length-range_with_len 0 (length lists)) in
-    subst (λ x. fault_among lists (drop i r) ≡ cond (is_some (site_fault lists x)) (site_fault lists x) (fault_among lists (drop (i + 1) r))) e (at_drop_more (fault_among lists) r i 0 long)
+    subst (λ x. fault_among lists (drop i r) ≡ cond (is_some (site_fault lists x)) (site_fault lists x)
+    (fault_among lists (drop (i + 1) r))) e (at_drop_more (fault_among lists) r i 0 long)
 
 -- the site that is next has the first fault
-pub fault_here : (lists : List (List ℕ)) (i : ℕ) → i < length lists → is_some (site_fault lists i) ≡ true → fault_among lists (drop i (range_with_len 0 (length lists))) ≡ site_fault lists i
+pub fault_here : (lists : List (List ℕ)) (i : ℕ) → i < length lists → is_some (site_fault lists i) ≡ true
+    → fault_among lists (drop i (range_with_len 0 (length lists))) ≡ site_fault lists i
 fault_here lists i within h = fault_step lists i within ∙ cond-true _ _ _ h
 
 -- or has none
-pub fault_later : (lists : List (List ℕ)) (i : ℕ) → i < length lists → is_some (site_fault lists i) ≡ false → fault_among lists (drop (i + 1) (range_with_len 0 (length lists))) ≡ fault_among lists (drop i (range_with_len 0 (length lists)))
+pub fault_later : (lists : List (List ℕ)) (i : ℕ) → i < length lists → is_some (site_fault lists i) ≡ false
+    → fault_among lists (drop (i + 1) (range_with_len 0 (length lists)))
+    ≡ fault_among lists (drop i (range_with_len 0 (length lists)))
 fault_later lists i within h = sym (fault_step lists i within ∙ cond-false _ _ _ h)
 
 -- where no site is left there is no fault
@@ -52,7 +60,8 @@ pub fault_none : (lists : List (List ℕ)) (i : ℕ) → length lists ≤ i → 
 fault_none lists i past = at_drop_all (fault_among lists) (range_with_len 0 (length lists)) i (omega (arith, length-range_with_len 0 (length lists)))
 
 -- without a first fault no site has one
-pub site_fault-none : (lists : List (List ℕ)) (sites : List ℕ) (s : ℕ) → fault_among lists sites ≡ None → is_listed sites s ≡ true → site_fault lists s ≡ None
+pub site_fault-none : (lists : List (List ℕ)) (sites : List ℕ) (s : ℕ) → fault_among lists sites ≡ None
+    → is_listed sites s ≡ true → site_fault lists s ≡ None
 site_fault-none lists [] s none listed = absurd (false≢true listed)
 site_fault-none lists (x ∷ xs) s none listed =
     elim (cases_Bool (is_some (site_fault lists x))) [

@@ -1,5 +1,6 @@
 -- The steps of a search that goes along a list.
-use Rattle.std.proofs.Common.{◌≡◌, ℕ, ◌+◌, ◌<◌, ◌≤◌, Bool, true, false, List, [], ◌∷◌, length, get_or, drop, find, Some, None, inl, inr, refl, sym, subst, eqb, ◌∙◌, ap, arith, All}
+use Rattle.std.proofs.Common.{◌≡◌, ℕ, ◌+◌, ◌<◌, ◌≤◌, Bool, true, false, List, [], ◌∷◌, length, get_or, drop, find, Some, None, inl, inr}
+use Rattle.std.proofs.Common.{refl, sym, subst, eqb, ◌∙◌, ap, arith, All}
 use Rattle.std.proofs.lemmas.Bool.{cond-true, cond-false, cases_Bool, or_cases, eqb-true, false≢true}
 use Rattle.std.proofs.lemmas.List.{at_drop_more, at_drop_all, length-map}
 use Rattle.std.proofs.lemmas.Option.{none-some}
@@ -41,16 +42,19 @@ find-agree p q same (x ∷ xs) = rw (same x, find-agree p q same xs) refl
 abbrev pub number_of : List SiteId → ℕ → ℕ
 number_of list i = (get_or list i (record { 0 = 0 })).0
 
-pub number_of-is : (list : List SiteId) (i : ℕ) → i < length list → (i < length (site_numbers list)) × (get_or (site_numbers list) i 0 ≡ number_of list i)
+pub number_of-is : (list : List SiteId) (i : ℕ) → i < length list → (i < length (site_numbers list))
+    × (get_or (site_numbers list) i 0 ≡ number_of list i)
 number_of-is list i within = (omega (arith, length-map list (λ (s : SiteId). s.0)), number_at list i 0 within)
 
 -- the same steps along a list of sites
-pub find_site_here : (p : ℕ → Bool) (list : List SiteId) (i : ℕ) → i < length list → p (number_of list i) ≡ true → find p (drop i (site_numbers list)) ≡ Some (number_of list i)
+pub find_site_here : (p : ℕ → Bool) (list : List SiteId) (i : ℕ) → i < length list → p (number_of list i) ≡ true
+    → find p (drop i (site_numbers list)) ≡ Some (number_of list i)
 find_site_here p list i within h =
     let is = number_of-is list i within in
     find_here p (site_numbers list) i is.0 (ap p is.1 ∙ h) ∙ ap Some is.1
 
-pub find_site_later : (p : ℕ → Bool) (list : List SiteId) (i : ℕ) → i < length list → p (number_of list i) ≡ false → find p (drop (i + 1) (site_numbers list)) ≡ find p (drop i (site_numbers list))
+pub find_site_later : (p : ℕ → Bool) (list : List SiteId) (i : ℕ) → i < length list → p (number_of list i) ≡ false
+    → find p (drop (i + 1) (site_numbers list)) ≡ find p (drop i (site_numbers list))
 find_site_later p list i within h =
     let is = number_of-is list i within in
     find_later p (site_numbers list) i is.0 (ap p is.1 ∙ h)

@@ -1,5 +1,6 @@
 -- What it means that a list names a site.
-use Rattle.std.proofs.Common.{◌≡◌, ℕ, Bool, true, false, eqb, List, length, get_or, drop, Contains, refl, subst, sym, ◌∙◌, ◌+◌, ◌-◌, ◌<◌, ◌≤◌, ◌⊎◌, inl, inr, arith}
+use Rattle.std.proofs.Common.{◌≡◌, ℕ, Bool, true, false, eqb, List, length, get_or, drop, Contains, refl, subst, sym, ◌∙◌, ◌+◌, ◌-◌, ◌<◌}
+use Rattle.std.proofs.Common.{◌≤◌, ◌⊎◌, inl, inr, arith}
 use Rattle.std.specs.List.{list_any}
 use Rattle.std.proofs.lemmas.List.{get_or_default, get_or-drop, length-drop}
 use Rattle.std.specs.Bool.{one_answer}
@@ -43,13 +44,19 @@ same_answers false true there back = back refl
 same_answers false false there back = refl
 
 -- a number that a list names stands at some place, before another place or from it on
-pub listed_split : (xs : List ℕ) (first x : ℕ) → is_listed xs x ≡ true → ((i : ℕ) × (i < first) × (i < length xs) × (get_or xs i 0 ≡ x)) ⊎ (is_listed (drop first xs) x ≡ true)
+pub listed_split : (xs : List ℕ) (first x : ℕ) → is_listed xs x ≡ true
+    → ((i : ℕ) × (i < first) × (i < length xs) × (get_or xs i 0 ≡ x)) ⊎ (is_listed (drop first xs) x ≡ true)
 listed_split xs first x listed =
     let c = Contains-from_listed xs x listed in
     let at : get_or xs c.0 0 ≡ x = get_or_default xs c.0 0 x c.1 ∙ c.2 in
     elim (cases_lt c.0 first) [
       | inl low ↦ inl (c.0, low, c.1, at)
-      | inr high ↦ inr (listed-from_Contains (drop first xs) x (c.0 - first, omega (arith, length-drop first xs), get_or-drop first xs (c.0 - first) x ∙ (let e : first + (c.0 - first) ≡ c.0 = omega arith in rw e c.2)))
+      | inr high ↦ inr (listed-from_Contains (drop first xs) x (
+        c.0 - first,
+        omega (arith, length-drop first xs),
+        get_or-drop first xs (c.0 - first) x
+            ∙ (let e : first + (c.0 - first) ≡ c.0 = omega arith in rw e c.2),
+      ))
     ]
 
 -- what stands from a place on is named
@@ -72,4 +79,9 @@ listed_place xs x listed =
 pub listed_later : (xs : List ℕ) (first i : ℕ) → first ≤ i → i < length xs → is_listed (drop first xs) (get_or xs i 0) ≡ true
 listed_later xs first i high within =
     let same : first + (i - first) ≡ i = omega arith in
-    listed-from_Contains (drop first xs) (get_or xs i 0) (i - first, omega (arith, length-drop first xs), get_or-drop first xs (i - first) (get_or xs i 0) ∙ (rw same (get_or_default xs i (get_or xs i 0) 0 within)))
+    listed-from_Contains (drop first xs) (get_or xs i 0) (
+      i - first,
+      omega (arith, length-drop first xs),
+      get_or-drop first xs (i - first) (get_or xs i 0)
+          ∙ (rw same (get_or_default xs i (get_or xs i 0) 0 within)),
+    )

@@ -20,7 +20,8 @@ range-rising a n k within =
     omega (arith, get_or-range_with_len a n k 0 (omega arith), get_or-range_with_len a n (k + 1) 0 low)
 
 -- a rising list of what passes below a number
-pub rising_is_filter : (p : ℕ → Bool) (n : ℕ) (xs : List ℕ) → IsStrictlyIncreasing xs → ((s : ℕ) → is_listed xs s ≡ (ltb s n && p s)) → xs ≡ filter p (range_with_len 0 n)
+pub rising_is_filter : (p : ℕ → Bool) (n : ℕ) (xs : List ℕ) → IsStrictlyIncreasing xs
+    → ((s : ℕ) → is_listed xs s ≡ (ltb s n && p s)) → xs ≡ filter p (range_with_len 0 n)
 rising_is_filter p n xs rising names =
     let kept = filter p (range_with_len 0 n) in
     let kept_rising : IsStrictlyIncreasing kept = IsStrictlyIncreasing-filter p _ (range-rising 0 n) in
@@ -44,7 +45,8 @@ listed-below n xs s below =
     [ inl t ↦ let e = lt-ltb s n (below-listed n xs s below t) in rw (t, e) refl | inr f ↦ rw f (sym (and_right (ltb s n) false refl)) ]
 
 -- a rising list of sites that names what a list does is that list, merged
-pub merged-is : (n : ℕ) (list xs : List ℕ) → All (λ t. t < n) xs → IsStrictlyIncreasing xs → ((s : ℕ) → is_listed xs s ≡ is_listed list s) → xs ≡ merged n list
+pub merged-is : (n : ℕ) (list xs : List ℕ) → All (λ t. t < n) xs → IsStrictlyIncreasing xs
+    → ((s : ℕ) → is_listed xs s ≡ is_listed list s) → xs ≡ merged n list
 unfolding merged
 merged-is n list xs below rising same =
     rising_is_filter (is_listed list) n xs rising (λ s. listed-below n xs s below ∙ ap (λ b. ltb s n && b) (same s))

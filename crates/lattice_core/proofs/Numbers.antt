@@ -22,23 +22,29 @@ position-numbers p xs =
     rw (e, ← l) refl
 
 -- the numbers of one of several lists
-pub list_of-numbers : (lists : List (Vec SiteId Global)) (i : ℕ) (list : Vec SiteId Global) → i < length lists → list ≡ get_or lists i list → list_of (number_lists lists) i ≡ site_numbers list.items
+pub list_of-numbers : (lists : List (Vec SiteId Global)) (i : ℕ) (list : Vec SiteId Global) → i < length lists
+    → list ≡ get_or lists i list → list_of (number_lists lists) i ≡ site_numbers list.items
 list_of-numbers lists i list within is =
-    get_or-map (λ (v : Vec SiteId Global). site_numbers v.items) lists i list [] within ∙ ap (λ (v : Vec SiteId Global). site_numbers v.items) (sym is)
+    get_or-map (λ (v : Vec SiteId Global). site_numbers v.items) lists i list [] within
+    ∙ ap (λ (v : Vec SiteId Global). site_numbers v.items) (sym is)
 
 -- one list replaced
-number_lists-set : (lists : List (Vec SiteId Global)) (i : ℕ) (list : Vec SiteId Global) → number_lists (set lists i list) ≡ set (number_lists lists) i (site_numbers list.items)
+number_lists-set : (lists : List (Vec SiteId Global)) (i : ℕ) (list : Vec SiteId Global)
+    → number_lists (set lists i list) ≡ set (number_lists lists) i (site_numbers list.items)
 number_lists-set lists i list = map-set (λ (v : Vec SiteId Global). site_numbers v.items) lists i list
 
-pub list_of-set_same : (lists : List (Vec SiteId Global)) (i : ℕ) (list : Vec SiteId Global) → i < length lists → list_of (number_lists (set lists i list)) i ≡ site_numbers list.items
+pub list_of-set_same : (lists : List (Vec SiteId Global)) (i : ℕ) (list : Vec SiteId Global) → i < length lists
+    → list_of (number_lists (set lists i list)) i ≡ site_numbers list.items
 list_of-set_same lists i list within =
     let long : i < length (number_lists lists) = omega (arith, length-map lists (λ (v : Vec SiteId Global). site_numbers v.items)) in
     ap (λ l. list_of l i) (number_lists-set lists i list) ∙ get_or-set_same (number_lists lists) i (site_numbers list.items) [] long
 
-pub list_of-set_other : (lists : List (Vec SiteId Global)) (i s : ℕ) (list : Vec SiteId Global) → s ≢ i → list_of (number_lists (set lists i list)) s ≡ list_of (number_lists lists) s
+pub list_of-set_other : (lists : List (Vec SiteId Global)) (i s : ℕ) (list : Vec SiteId Global) → s ≢ i
+    → list_of (number_lists (set lists i list)) s ≡ list_of (number_lists lists) s
 list_of-set_other lists i s list apart =
     ap (λ l. list_of l s) (number_lists-set lists i list) ∙ get_or-set_other (number_lists lists) i s (site_numbers list.items) [] apart
 
 -- the numbers of the list at a place
-pub list_of-at : (lists : List (Vec SiteId Global)) (i : ℕ) (default : Vec SiteId Global) → i < length lists → list_of (number_lists lists) i ≡ site_numbers (get_or lists i default).items
+pub list_of-at : (lists : List (Vec SiteId Global)) (i : ℕ) (default : Vec SiteId Global) → i < length lists
+    → list_of (number_lists lists) i ≡ site_numbers (get_or lists i default).items
 list_of-at lists i default within = get_or-map (λ (v : Vec SiteId Global). site_numbers v.items) lists i default [] within

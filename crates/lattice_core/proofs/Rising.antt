@@ -1,5 +1,6 @@
 -- Rising lists are told by what they name.
-use Rattle.std.proofs.Common.{◌≡◌, ℕ, suc, ◌+◌, ◌<◌, ◌≤◌, Bool, true, false, ◌&&◌, ◌||◌, cond, eqb, ltb, leb, List, [], ◌∷◌, filter, refl, sym, ◌∙◌, ap, subst, arith, nat_cmp, inl, inr, zero}
+use Rattle.std.proofs.Common.{◌≡◌, ℕ, suc, ◌+◌, ◌<◌, ◌≤◌, Bool, true, false, ◌&&◌, ◌||◌, cond, eqb, ltb, leb, List, [], ◌∷◌, filter, refl}
+use Rattle.std.proofs.Common.{sym, ◌∙◌, ap, subst, arith, nat_cmp, inl, inr, zero}
 use Rattle.std.specs.List.{range_with_len}
 use Rattle.std.specs.List.Sorted.{IsStrictlySortedBy}
 use Rattle.std.proofs.Common.{Less}
@@ -26,7 +27,8 @@ first_once : (x : ℕ) (xs : List ℕ) → IsStrictlySortedBy nat_cmp (x ∷ xs)
 first_once x xs up = false_from_ne_true _ (λ h. let k : x < x = first_below x xs x up h in absurd (omega arith))
 
 -- what names the same with an equal first names the same after it
-same_rest : (x : ℕ) (xs ys : List ℕ) → IsStrictlySortedBy nat_cmp (x ∷ xs) → IsStrictlySortedBy nat_cmp (x ∷ ys) → ((s : ℕ) → is_listed (x ∷ xs) s ≡ is_listed (x ∷ ys) s) → (s : ℕ) → is_listed xs s ≡ is_listed ys s
+same_rest : (x : ℕ) (xs ys : List ℕ) → IsStrictlySortedBy nat_cmp (x ∷ xs) → IsStrictlySortedBy nat_cmp (x ∷ ys)
+    → ((s : ℕ) → is_listed (x ∷ xs) s ≡ is_listed (x ∷ ys) s) → (s : ℕ) → is_listed xs s ≡ is_listed ys s
 same_rest x xs ys up down same s =
     elim (cases_eq x s) [
       | inl e ↦ subst (λ t. is_listed xs t ≡ is_listed ys t) e (first_once x xs up ∙ sym (first_once x ys down))
@@ -42,7 +44,8 @@ not_below x y xs ys down same =
     [ inl e ↦ let k = eqb-true y x e in omega arith | inr h ↦ let k = first_below y ys x down h in omega arith ]
 
 -- two rising lists that name the same sites are one
-pub same_rising : (xs ys : List ℕ) → IsStrictlySortedBy nat_cmp xs → IsStrictlySortedBy nat_cmp ys → ((s : ℕ) → is_listed xs s ≡ is_listed ys s) → xs ≡ ys
+pub same_rising : (xs ys : List ℕ) → IsStrictlySortedBy nat_cmp xs → IsStrictlySortedBy nat_cmp ys
+    → ((s : ℕ) → is_listed xs s ≡ is_listed ys s) → xs ≡ ys
 same_rising [] [] up down same = refl
 same_rising [] (y ∷ ys) up down same = absurd (false≢true (same y ∙ names_first y ys))
 same_rising (x ∷ xs) [] up down same = absurd (false≢true (sym (same x) ∙ names_first x xs))
@@ -56,7 +59,8 @@ same_rising (x ∷ xs) (y ∷ ys) up down same =
     subst (λ z. x ∷ xs ≡ z ∷ ys) (sym e) (ap (λ l. x ∷ l) rest)
 
 -- one more element of a filter
-filter_step : (p : ℕ → Bool) (x : ℕ) (xs kept : List ℕ) (s : ℕ) → is_listed kept s ≡ (is_listed xs s && p s) → is_listed (cond (p x) (x ∷ kept) kept) s ≡ ((eqb x s || is_listed xs s) && p s)
+filter_step : (p : ℕ → Bool) (x : ℕ) (xs kept : List ℕ) (s : ℕ) → is_listed kept s ≡ (is_listed xs s && p s)
+    → is_listed (cond (p x) (x ∷ kept) kept) s ≡ ((eqb x s || is_listed xs s) && p s)
 filter_step p x xs kept s ih =
     elim (cases_eq x s) [
       | inl e ↦ elim (cases_Bool (p x)) [

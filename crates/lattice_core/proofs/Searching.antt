@@ -1,5 +1,6 @@
 -- What a binary search over sites in rising order finds.
-use Rattle.std.proofs.Common.{◌≡◌, ℕ, ◌+◌, ◌<◌, List, Result, Ok, Err, length, get_or, sym, ◌∙◌, arith, nat_cmp, is_ok, Less, Equal, Greater, inl, inr, eqb, Some, ap}
+use Rattle.std.proofs.Common.{◌≡◌, ℕ, ◌+◌, ◌<◌, List, Result, Ok, Err, length, get_or, sym, ◌∙◌, arith, nat_cmp, is_ok, Less, Equal}
+use Rattle.std.proofs.Common.{Greater, inl, inr, eqb, Some, ap}
 use Rattle.std.specs.Ordering.{is_lt}
 use Rattle.std.specs.List.Sorted.{IsStrictlyIncreasing, IsSortedBy, IsBinarySearchResult, IsSearchInRange}
 use Rattle.std.proofs.lemmas.Bool.{false_from_ne_true, cases_lt}
@@ -29,7 +30,9 @@ sorted_sites xs rising k d low high =
     grind (arith, nat_tests, a, b, up)
 
 -- what the search answers is whether the numbers name the site
-pub is_listed-from_search : (xs : List SiteId) (x : ℕ) (r : Result ℕ ℕ) → IsStrictlyIncreasing (site_numbers xs) → IsSearchInRange r (length xs) → IsBinarySearchResult (λ (y : SiteId). nat_cmp y.0 x) xs r → is_ok r ≡ is_listed (site_numbers xs) x
+pub is_listed-from_search : (xs : List SiteId) (x : ℕ) (r : Result ℕ ℕ) → IsStrictlyIncreasing (site_numbers xs)
+    → IsSearchInRange r (length xs) → IsBinarySearchResult (λ (y : SiteId). nat_cmp y.0 x) xs r
+    → is_ok r ≡ is_listed (site_numbers xs) x
 is_listed-from_search xs x (Ok i) rising inside found =
     let at : (get_or xs i (record { 0 = x })).0 ≡ x = ranked _ x Equal (sym (found (record { 0 = x }))) in
     sym (listed-from_Contains _ x (i, omega (arith, length-map xs (λ (s : SiteId). s.0)), number_at xs i x inside ∙ at))
@@ -40,12 +43,16 @@ is_listed-from_search xs x (Err i) rising inside none =
     let fits : c.0 < length xs = omega (arith, length-map xs (λ (s : SiteId). s.0), c.1) in
     let at : (get_or xs c.0 (record { 0 = x })).0 ≡ x = sym (number_at xs c.0 x fits) ∙ c.2 in
     elim (cases_lt c.0 i) [
-      | inl low ↦ let less : (get_or xs c.0 (record { 0 = x })).0 < x = ranked _ x Less (sym (parts.0 c.0 (record { 0 = x }) (omega arith) low)) in absurd (omega arith)
-      | inr high ↦ let more : x < (get_or xs c.0 (record { 0 = x })).0 = ranked _ x Greater (sym (parts.1 c.0 (record { 0 = x }) high fits)) in absurd (omega arith)
+      | inl low ↦ let less : (get_or xs c.0 (record { 0 = x })).0 < x =
+          ranked _ x Less (sym (parts.0 c.0 (record { 0 = x }) (omega arith) low)) in absurd (omega arith)
+      | inr high ↦ let more : x < (get_or xs c.0 (record { 0 = x })).0 =
+          ranked _ x Greater (sym (parts.1 c.0 (record { 0 = x }) high fits)) in absurd (omega arith)
     ]))
 
 -- and where it found it
-pub position-from_search : (xs : List SiteId) (x : ℕ) (r : Result ℕ ℕ) → IsStrictlyIncreasing (site_numbers xs) → IsSearchInRange r (length xs) → IsBinarySearchResult (λ (y : SiteId). nat_cmp y.0 x) xs r → result_ok r ≡ position (λ t. eqb t x) (site_numbers xs)
+pub position-from_search : (xs : List SiteId) (x : ℕ) (r : Result ℕ ℕ) → IsStrictlyIncreasing (site_numbers xs)
+    → IsSearchInRange r (length xs) → IsBinarySearchResult (λ (y : SiteId). nat_cmp y.0 x) xs r
+    → result_ok r ≡ position (λ t. eqb t x) (site_numbers xs)
 position-from_search xs x (Ok i) rising inside found =
     let at : (get_or xs i (record { 0 = x })).0 ≡ x = ranked _ x Equal (sym (found (record { 0 = x }))) in
     let long : i < length (site_numbers xs) = omega (arith, inside, length-map xs (λ (s : SiteId). s.0)) in

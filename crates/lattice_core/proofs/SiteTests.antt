@@ -22,13 +22,20 @@ module _ (lists : List (Vec SiteId Global)) (s : ℕ) (list : List SiteId) (is :
   has_itself-is = rw is refl
 
   -- a rising list of sites is merged already
-  pub merged_of-is : IsStrictlyIncreasing (list_of (number_lists lists) s) → has_bad_site (number_lists lists) s ≡ false → site_numbers list ≡ merged_of (number_lists lists) s
+  pub merged_of-is : IsStrictlyIncreasing (list_of (number_lists lists) s)
+      → has_bad_site (number_lists lists) s ≡ false → site_numbers list ≡ merged_of (number_lists lists) s
   merged_of-is rising sound =
-      is ∙ merged-is (length (number_lists lists)) (list_of (number_lists lists) s) (list_of (number_lists lists) s) (All-below _ _ sound) rising (λ t. refl)
+      is ∙ merged-is (length (number_lists lists)) (list_of (number_lists lists) s) (list_of (number_lists lists) s)
+      (All-below _ _ sound) rising (λ t. refl)
 
-  pub has_too_many-is : IsStrictlyIncreasing (list_of (number_lists lists) s) → has_bad_site (number_lists lists) s ≡ false → ltb MAX_NEIGHBOURS (length list) ≡ has_too_many (number_lists lists) s
+  pub has_too_many-is : IsStrictlyIncreasing (list_of (number_lists lists) s)
+      → has_bad_site (number_lists lists) s ≡ false
+      → ltb MAX_NEIGHBOURS (length list) ≡ has_too_many (number_lists lists) s
   has_too_many-is rising sound =
       ap (λ n. ltb MAX_NEIGHBOURS n) (sym (length-map list (λ (t : SiteId). t.0)) ∙ ap length (merged_of-is rising sound))
 
-  pub one_sided-is : IsStrictlyIncreasing (list_of (number_lists lists) s) → has_bad_site (number_lists lists) s ≡ false → find (λ t. not (is_listed (list_of (number_lists lists) t) s)) (site_numbers list) ≡ one_sided (number_lists lists) s
+  pub one_sided-is : IsStrictlyIncreasing (list_of (number_lists lists) s)
+      → has_bad_site (number_lists lists) s ≡ false
+      → find (λ t. not (is_listed (list_of (number_lists lists) t) s)) (site_numbers list)
+      ≡ one_sided (number_lists lists) s
   one_sided-is rising sound = ap (find (λ t. not (is_listed (list_of (number_lists lists) t) s))) (merged_of-is rising sound)

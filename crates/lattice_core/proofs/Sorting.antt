@@ -26,7 +26,8 @@ numbers_sorted xs h k d low high =
 numbers_from : (x : SiteId) (xs : List SiteId) → site_numbers (dedup_from same_site x xs) ≡ dedup_from eqb x.0 (site_numbers xs)
 numbers_from x [] = refl
 numbers_from x (y ∷ ys) =
-    elim (eqb y.0 x.0) as (λ b. site_numbers (cond b (dedup_from same_site x ys) (x ∷ dedup_from same_site y ys)) ≡ cond b (dedup_from eqb x.0 (site_numbers ys)) (x.0 ∷ dedup_from eqb y.0 (site_numbers ys)))
+    elim (eqb y.0 x.0) as (λ b. site_numbers (cond b (dedup_from same_site x ys) (x ∷ dedup_from same_site y ys))
+    ≡ cond b (dedup_from eqb x.0 (site_numbers ys)) (x.0 ∷ dedup_from eqb y.0 (site_numbers ys)))
     [ true ↦ numbers_from x ys | false ↦ ap (λ l. x.0 ∷ l) (numbers_from y ys) ]
 
 numbers-dedup : (xs : List SiteId) → site_numbers (dedup same_site xs) ≡ dedup eqb (site_numbers xs)
@@ -34,11 +35,13 @@ numbers-dedup [] = refl
 numbers-dedup (x ∷ xs) = numbers_from x xs
 
 -- after the sort and the removal the numbers rise
-pub rising-from_sort : (sorted kept : List SiteId) → IsSorted (λ a b. nat_cmp a.0 b.0) sorted → kept ≡ dedup same_site sorted → IsStrictlyIncreasing (site_numbers kept)
+pub rising-from_sort : (sorted kept : List SiteId) → IsSorted (λ a b. nat_cmp a.0 b.0) sorted
+    → kept ≡ dedup same_site sorted → IsStrictlyIncreasing (site_numbers kept)
 rising-from_sort sorted kept order is = rw (is, numbers-dedup sorted) (IsStrictlyIncreasing-dedup (site_numbers sorted) (numbers_sorted sorted order))
 
 -- and they are those of before
-pub is_listed-from_sort : (before sorted kept : List SiteId) (s : ℕ) → IsPermutation before sorted → kept ≡ dedup same_site sorted → is_listed (site_numbers kept) s ≡ is_listed (site_numbers before) s
+pub is_listed-from_sort : (before sorted kept : List SiteId) (s : ℕ) → IsPermutation before sorted
+    → kept ≡ dedup same_site sorted → is_listed (site_numbers kept) s ≡ is_listed (site_numbers before) s
 is_listed-from_sort before sorted kept s moved is =
     let numbers_moved = IsPermutation-map (λ (x : SiteId). x.0) before sorted moved in
     let e : site_numbers kept ≡ dedup eqb (site_numbers sorted) = ap site_numbers is ∙ numbers-dedup sorted in

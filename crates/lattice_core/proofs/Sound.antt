@@ -1,5 +1,6 @@
 -- Lists that name the same have the same faults, and lists without a fault make a lattice.
-use Rattle.std.proofs.Common.{◌≡◌, ℕ, ◌+◌, ◌<◌, ◌≤◌, Bool, true, false, not, List, [], ◌∷◌, length, map, All, Option, Some, None, inl, inr, refl, sym, ◌∙◌, ap, arith}
+use Rattle.std.proofs.Common.{◌≡◌, ℕ, ◌+◌, ◌<◌, ◌≤◌, Bool, true, false, not, List, [], ◌∷◌, length, map, All, Option, Some, None, inl}
+use Rattle.std.proofs.Common.{inr, refl, sym, ◌∙◌, ap, arith}
 use Rattle.std.specs.List.{range_with_len, list_any}
 use Rattle.std.specs.List.Sorted.{IsStrictlyIncreasing}
 use Rattle.std.specs.Option.{option_map}
@@ -8,7 +9,7 @@ use Rattle.std.proofs.lemmas.List.{get_or_past, same_lists, get_or-map, length-m
 use Rattle.std.proofs.lemmas.List.Elements.{All-nil}
 use Rattle.std.proofs.lemmas.List.Folds.{Any-from_list_any, list_any-from_Any}
 use Rattle.std.proofs.lemmas.Option.{none-some}
-use Rattle.kmc_base.specs.declared.ids.TheConstants.{MAX_SITES}
+use Rattle.kmc_base.specs.declared.limits.TheConstants.{MAX_SITES}
 use Rattle.lattice_core.specs.declared.graph.TheConstants.{MAX_NEIGHBOURS}
 use Rattle.lattice_core.specs.declared.fault.GraphFault.{GraphFault}
 use Rattle.lattice_core.specs.Fault.{has_bad_site, has_itself, has_too_many, one_sided, site_fault, fault_among, first_fault, merged_of}
@@ -66,7 +67,8 @@ none_from_map f None h = refl
 none_from_map f (Some x) h = absurd (none-some (f x) (sym h))
 
 -- the three tests fail, and no neighbour is one-sided
-tests-none : (lists : List (List ℕ)) (s : ℕ) → site_fault lists s ≡ None → (has_bad_site lists s ≡ false) × (has_itself lists s ≡ false) × (has_too_many lists s ≡ false) × (one_sided lists s ≡ None)
+tests-none : (lists : List (List ℕ)) (s : ℕ) → site_fault lists s ≡ None → (has_bad_site lists s ≡ false)
+    × (has_itself lists s ≡ false) × (has_too_many lists s ≡ false) × (one_sided lists s ≡ None)
 tests-none lists s none =
     elim (cases_Bool (has_bad_site lists s)) [
       | inl a ↦ absurd (none-some _ (sym none ∙ fault-bad_site lists s a))
@@ -96,7 +98,10 @@ module _ (lists : List (List ℕ)) (rising : (s : ℕ) → IsStrictlyIncreasing 
   sound : first_fault lists ≡ None → (s : ℕ) → Sound lists s
   sound none s =
       elim (cases_lt s (length lists)) [
-        | inl within ↦ sound-from_none s (site_fault-none lists (range_with_len 0 (length lists)) s none (is_listed-range 0 (length lists) s ∙ and_from _ _ (le-leb 0 s (omega arith)) (lt-ltb s (0 + length lists) (omega arith))))
+        | inl within ↦ sound-from_none s
+            (site_fault-none lists (range_with_len 0 (length lists)) s none
+            (is_listed-range 0 (length lists) s
+            ∙ and_from _ _ (le-leb 0 s (omega arith)) (lt-ltb s (0 + length lists) (omega arith))))
         | inr past ↦ let e : list_of lists s ≡ [] = get_or_past lists s [] past in
             record {
               sites = rw e (All-nil (λ t. t < length lists));
@@ -106,7 +111,8 @@ module _ (lists : List (List ℕ)) (rising : (s : ℕ) → IsStrictlyIncreasing 
             }
       ]
 
-  pub lattice-from_sound : (types : List ℕ) → length types ≡ length lists → 1 ≤ length types → length types ≤ MAX_SITES → first_fault lists ≡ None → IsLattice (record { types = types; neighbours = lists })
+  pub lattice-from_sound : (types : List ℕ) → length types ≡ length lists → 1 ≤ length types
+      → length types ≤ MAX_SITES → first_fault lists ≡ None → IsLattice (record { types = types; neighbours = lists })
   lattice-from_sound types lengths some limit none = record {
     has_a_site = some;
     within_limit = limit;

@@ -1,11 +1,14 @@
 -- Walks: what some steps reach, and what a search by levels has found.
-use Rattle.std.proofs.Common.{◌≡◌, ℕ, zero, suc, ◌+◌, ◌<◌, ◌≤◌, true, false, leb, ltb, List, length, get_or, drop, ◌⊎◌, inl, inr, refl, subst, sym, ◌∙◌, ap, arith}
+use Rattle.std.proofs.Common.{◌≡◌, ℕ, zero, suc, ◌+◌, ◌<◌, ◌≤◌, true, false, leb, ltb, List, length, get_or, drop, ◌⊎◌, inl, inr, refl}
+use Rattle.std.proofs.Common.{subst, sym, ◌∙◌, ap, arith}
 use Rattle.std.specs.List.{list_any, range_with_len}
-use Rattle.std.proofs.lemmas.Bool.{eq-eqb, eqb-true, or_left, or_right, or_cases, cases_lt, cases_Bool, both_ways, and_from, and_parts, le-leb, lt-ltb, ltb-true}
+use Rattle.std.proofs.lemmas.Bool.{eq-eqb, eqb-true, or_left, or_right, or_cases, cases_lt, cases_Bool, both_ways, and_from, and_parts}
+use Rattle.std.proofs.lemmas.Bool.{le-leb, lt-ltb, ltb-true}
 use Rattle.lattice_core.specs.Ball.{has_walk, is_reached, IsDistance, IsNear}
 use Rattle.lattice_core.specs.Lattice.{Lattice, IsLattice, neighbours_of}
 use Rattle.lattice_core.specs.SiteList.{is_listed, Adds, BeginsWith}
-use Rattle.lattice_core.proofs.Members.{Contains-from_listed, listed-from_Contains, listed-from_any, any-from_listed, same_answers, listed_split, listed-from_drop, listed_place, listed_later}
+use Rattle.lattice_core.proofs.Members.{Contains-from_listed, listed-from_Contains, listed-from_any, any-from_listed, same_answers}
+use Rattle.lattice_core.proofs.Members.{listed_split, listed-from_drop, listed_place, listed_later}
 use Rattle.std.proofs.lemmas.List.{get_or-take}
 use Rattle.lattice_core.proofs.Rising.{is_listed-range}
 
@@ -30,7 +33,8 @@ Reached-from_test lattice start k s h =
 pub test-from_Reached : (lattice : Lattice) (start : List ℕ) (k s : ℕ) → Reached lattice start k s → is_reached lattice start k s ≡ true
 unfolding is_reached
 test-from_Reached lattice start k s r =
-    let inside = is_listed-range 0 (k + 1) r.steps ∙ and_from _ _ (le-leb 0 r.steps (omega arith)) (lt-ltb r.steps (0 + (k + 1)) (omega (arith, r.within))) in
+    let inside = is_listed-range 0 (k + 1) r.steps
+    ∙ and_from _ _ (le-leb 0 r.steps (omega arith)) (lt-ltb r.steps (0 + (k + 1)) (omega (arith, r.within))) in
     any-from_listed _ start r.from r.starts (any-from_listed (has_walk lattice r.from s) (range_with_len 0 (k + 1)) r.steps inside r.walk)
 
 -- no step stays, and a step goes to a neighbour
@@ -42,11 +46,13 @@ walk_start : (lattice : Lattice) (a b : ℕ) → has_walk lattice a b 0 ≡ true
 unfolding has_walk
 walk_start lattice a b h = eqb-true a b h
 
-walk_more : (lattice : Lattice) (a b c n : ℕ) → has_walk lattice a c n ≡ true → is_listed (neighbours_of lattice b) c ≡ true → has_walk lattice a b (suc n) ≡ true
+walk_more : (lattice : Lattice) (a b c n : ℕ) → has_walk lattice a c n ≡ true
+    → is_listed (neighbours_of lattice b) c ≡ true → has_walk lattice a b (suc n) ≡ true
 unfolding has_walk
 walk_more lattice a b c n walk listed = any-from_listed (λ x. has_walk lattice a x n) (neighbours_of lattice b) c listed walk
 
-walk_last : (lattice : Lattice) (a b n : ℕ) → has_walk lattice a b (suc n) ≡ true → (c : ℕ) × (is_listed (neighbours_of lattice b) c ≡ true) × (has_walk lattice a c n ≡ true)
+walk_last : (lattice : Lattice) (a b n : ℕ) → has_walk lattice a b (suc n) ≡ true
+    → (c : ℕ) × (is_listed (neighbours_of lattice b) c ≡ true) × (has_walk lattice a c n ≡ true)
 unfolding has_walk
 walk_last lattice a b n h = listed-from_any (λ x. has_walk lattice a x n) (neighbours_of lattice b) h
 
@@ -65,7 +71,8 @@ reached_start lattice start s =
     let e : r.from ≡ s = walk_start lattice r.from s (rw none at r.walk) in
     subst (λ x. is_listed start x ≡ true) e r.starts)
 
-module _ (lattice : Lattice) (is : IsLattice lattice) (start xs : List ℕ) (k first : ℕ) (found : (s : ℕ) → is_listed xs s ≡ is_reached lattice start k s) (closed : IsClosed lattice xs first) where
+module _ (lattice : Lattice) (is : IsLattice lattice) (start xs : List ℕ) (k first : ℕ)
+    (found : (s : ℕ) → is_listed xs s ≡ is_reached lattice start k s) (closed : IsClosed lattice xs first) where
   -- what was found is reached
   reached : (s : ℕ) → is_listed xs s ≡ true → Reached lattice start k s
   reached s h = Reached-from_test lattice start k s (sym (found s) ∙ h)
@@ -74,7 +81,8 @@ module _ (lattice : Lattice) (is : IsLattice lattice) (start xs : List ℕ) (k f
   listed s r = found s ∙ test-from_Reached lattice start k s r
 
   -- the last step of a walk of one step more
-  last_step : (ys : List ℕ) → Adds xs ys (λ s. list_any (λ f. is_listed (neighbours_of lattice f) s) (drop first xs)) → (s : ℕ) (r : Reached lattice start (k + 1) s) → r.steps ≡ suc k → is_listed ys s ≡ true
+  last_step : (ys : List ℕ) → Adds xs ys (λ s. list_any (λ f. is_listed (neighbours_of lattice f) s) (drop first xs))
+      → (s : ℕ) (r : Reached lattice start (k + 1) s) → r.steps ≡ suc k → is_listed ys s ≡ true
   last_step ys adds s r e =
       let m = walk_last lattice r.from s k (rw e at r.walk) in
       let before = listed m.0 (record { from = r.from; steps = k; starts = r.starts; within = omega arith; walk = m.2 }) in
@@ -85,36 +93,65 @@ module _ (lattice : Lattice) (is : IsLattice lattice) (start xs : List ℕ) (k f
       ]
 
   -- one step on
-  pub reached_more : (ys : List ℕ) → Adds xs ys (λ s. list_any (λ f. is_listed (neighbours_of lattice f) s) (drop first xs)) → (s : ℕ) → is_listed ys s ≡ is_reached lattice start (k + 1) s
+  pub reached_more : (ys : List ℕ)
+      → Adds xs ys (λ s. list_any (λ f. is_listed (neighbours_of lattice f) s) (drop first xs)) → (s : ℕ)
+      → is_listed ys s ≡ is_reached lattice start (k + 1) s
   reached_more ys adds s =
       same_answers _ _
       (λ h. elim (or_cases _ _ (sym (adds s) ∙ h)) [
         | inl old ↦ let r = reached s old in
-            test-from_Reached lattice start (k + 1) s (record { from = r.from; steps = r.steps; starts = r.starts; within = omega (arith, r.within); walk = r.walk })
+            test-from_Reached lattice start (k + 1) s
+            (record {
+              from = r.from;
+              steps = r.steps;
+              starts = r.starts;
+              within = omega (arith, r.within);
+              walk = r.walk;
+            })
         | inr new ↦ let f = listed-from_any _ (drop first xs) new in
             let r = reached f.0 (listed-from_drop xs first f.0 f.1) in
-            test-from_Reached lattice start (k + 1) s (record { from = r.from; steps = suc r.steps; starts = r.starts; within = omega (arith, r.within); walk = walk_more lattice r.from s f.0 r.steps r.walk (is.symmetric f.0 s f.2) })
+            test-from_Reached lattice start (k + 1) s
+            (record {
+              from = r.from;
+              steps = suc r.steps;
+              starts = r.starts;
+              within = omega (arith, r.within);
+              walk = walk_more lattice r.from s f.0 r.steps r.walk (is.symmetric f.0 s f.2);
+            })
       ])
       (λ h.
       let r = Reached-from_test lattice start (k + 1) s h in
       elim (cases_lt r.steps (k + 1)) [
-        | inl low ↦ adds s ∙ or_left _ _ (listed s (record { from = r.from; steps = r.steps; starts = r.starts; within = omega arith; walk = r.walk }))
+        | inl low ↦ adds s ∙ or_left _ _
+            (listed s (record {
+              from = r.from;
+              steps = r.steps;
+              starts = r.starts;
+              within = omega arith;
+              walk = r.walk;
+            }))
         | inr high ↦ last_step ys adds s r (omega (arith, r.within))
       ])
 
   -- what is named stays closed
-  pub closed_more : (ys : List ℕ) → BeginsWith ys xs → Adds xs ys (λ s. list_any (λ f. is_listed (neighbours_of lattice f) s) (drop first xs)) → IsClosed lattice ys (length xs)
+  pub closed_more : (ys : List ℕ) → BeginsWith ys xs
+      → Adds xs ys (λ s. list_any (λ f. is_listed (neighbours_of lattice f) s) (drop first xs))
+      → IsClosed lattice ys (length xs)
   closed_more ys front adds i t low within h =
       let e : get_or ys i 0 ≡ get_or xs i 0 = sym (get_or-take (length xs) ys i 0 low) ∙ ap (λ l. get_or l i 0) front in
       let next = rw e at h in
       elim (cases_lt i first) [
         | inl early ↦ adds t ∙ or_left _ _ (closed i t early low next)
-        | inr late ↦ adds t ∙ or_right _ _ (any-from_listed (λ f. is_listed (neighbours_of lattice f) t) (drop first xs) (get_or xs i 0) (listed_later xs first i late low) next)
+        | inr late ↦ adds t ∙ or_right _ _
+            (any-from_listed (λ f. is_listed (neighbours_of lattice f) t) (drop first xs) (get_or xs i 0)
+            (listed_later xs first i late low) next)
       ]
 
   -- where every place was closed, each walk from a start stays in the list
   along : length xs ≤ first → (c : ℕ) → is_listed start c ≡ true → (n s : ℕ) → has_walk lattice c s n ≡ true → is_listed xs s ≡ true
-  along all c starts zero s walk = subst (λ x. is_listed xs x ≡ true) (walk_start lattice c s walk) (listed c (record { from = c; steps = 0; starts = starts; within = omega arith; walk = walk_none lattice c }))
+  along all c starts zero s walk =
+      subst (λ x. is_listed xs x ≡ true) (walk_start lattice c s walk)
+      (listed c (record { from = c; steps = 0; starts = starts; within = omega arith; walk = walk_none lattice c }))
   along all c starts (suc n) s walk =
       let m = walk_last lattice c s n walk in
       let p = listed_place xs m.0 (along all c starts n m.0 m.2) in
@@ -126,7 +163,14 @@ module _ (lattice : Lattice) (is : IsLattice lattice) (start xs : List ℕ) (k f
       same_answers _ _
       (λ h.
       let r = reached s h in
-      test-from_Reached lattice start radius s (record { from = r.from; steps = r.steps; starts = r.starts; within = omega (arith, r.within); walk = r.walk }))
+      test-from_Reached lattice start radius s
+      (record {
+        from = r.from;
+        steps = r.steps;
+        starts = r.starts;
+        within = omega (arith, r.within);
+        walk = r.walk;
+      }))
       (λ h.
       let r = Reached-from_test lattice start radius s h in
       along all r.from r.starts r.steps s r.walk)
@@ -135,7 +179,8 @@ module _ (lattice : Lattice) (is : IsLattice lattice) (start xs : List ℕ) (k f
 least_of : (lattice : Lattice) (a b k : ℕ) → ((m : ℕ) → m < k → has_walk lattice a b m ≡ false) → (m : ℕ) → has_walk lattice a b m ≡ true → k ≤ m
 least_of lattice a b k none m h = elim (cases_lt m k) [ inl low ↦ absurd (both_ways _ (none m low) h) | inr high ↦ high ]
 
-no_more : (lattice : Lattice) (a b k : ℕ) → ((m : ℕ) → m < k → has_walk lattice a b m ≡ false) → has_walk lattice a b k ≡ false → (m : ℕ) → m < suc k → has_walk lattice a b m ≡ false
+no_more : (lattice : Lattice) (a b k : ℕ) → ((m : ℕ) → m < k → has_walk lattice a b m ≡ false)
+    → has_walk lattice a b k ≡ false → (m : ℕ) → m < suc k → has_walk lattice a b m ≡ false
 no_more lattice a b k none last m h =
     elim (cases_lt m k) [ inl low ↦ none m low | inr high ↦ (let e : k ≡ m = omega arith in subst (λ x. has_walk lattice a b x ≡ false) e last) ]
 
@@ -152,7 +197,8 @@ distance_below lattice a b (suc k) =
     ]
 
 -- a site is near exactly where it is reached
-pub near_reached : (lattice : Lattice) (centres : List ℕ) (radius s : ℕ) → is_reached lattice centres radius s ≡ true → IsNear lattice centres radius s
+pub near_reached : (lattice : Lattice) (centres : List ℕ) (radius s : ℕ) → is_reached lattice centres radius s ≡ true
+    → IsNear lattice centres radius s
 near_reached lattice centres radius s h =
     let r = Reached-from_test lattice centres radius s h in
     elim (distance_below lattice r.from s (suc r.steps)) [
@@ -160,6 +206,14 @@ near_reached lattice centres radius s h =
       | inr none ↦ absurd (both_ways _ (none r.steps (omega arith)) r.walk)
     ]
 
-pub reached_near : (lattice : Lattice) (centres : List ℕ) (radius s : ℕ) → IsNear lattice centres radius s → is_reached lattice centres radius s ≡ true
+pub reached_near : (lattice : Lattice) (centres : List ℕ) (radius s : ℕ) → IsNear lattice centres radius s
+    → is_reached lattice centres radius s ≡ true
 reached_near lattice centres radius s near =
-    test-from_Reached lattice centres radius s (record { from = near.0; steps = near.1; starts = listed-from_Contains centres near.0 near.2; within = near.4; walk = near.3.walk })
+    test-from_Reached lattice centres radius s
+    (record {
+      from = near.0;
+      steps = near.1;
+      starts = listed-from_Contains centres near.0 near.2;
+      within = near.4;
+      walk = near.3.walk;
+    })

@@ -49,7 +49,8 @@ pub record IsWholeAdsorbate (states : List State) (sites : List ℕ) : Type 0 wh
 -- the sites of one home hold one adsorbate: of one species, with each of its dentates once, and dentate 1 on the home
 pub record IsAdsorbate (dentates : ℕ → ℕ) (states : List State) (species home : ℕ) : Type 0 where
   pub one_species : (s p d : ℕ) → state_at states s ≡ held p d home → (p ≡ species) × (1 ≤ d) × (d ≤ dentates species)
-  pub each_once : (d : ℕ) → 1 ≤ d → d ≤ dentates species → (s : ℕ) × (state_at states s ≡ held species d home) × ((t : ℕ) → state_at states t ≡ held species d home → t ≡ s)
+  pub each_once : (d : ℕ) → 1 ≤ d → d ≤ dentates species → (s : ℕ) × (state_at states s ≡ held species d home)
+      × ((t : ℕ) → state_at states t ≡ held species d home → t ≡ s)
   pub first_on_home : state_at states home ≡ held species 1 home
 
 -- a configuration is well formed, for these numbers of dentates of the species, where each home has one adsorbate

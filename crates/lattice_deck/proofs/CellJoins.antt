@@ -1,5 +1,6 @@
 -- the joins of a cell without a fault
-use Rattle.std.proofs.Common.{◌≡◌, ℕ, ◌-◌, ◌≤◌, ◌==◌, ◌||◌, Bool, true, false, List, [], ◌∷◌, Option, None, Some, nat_lt, if◌then◌else◌, inl, inr, ap, sym, ◌∙◌, arith, refl}
+use Rattle.std.proofs.Common.{◌≡◌, ℕ, ◌-◌, ◌≤◌, ◌==◌, ◌||◌, Bool, true, false, List, [], ◌∷◌, Option, None, Some, nat_lt, if◌then◌else◌}
+use Rattle.std.proofs.Common.{inl, inr, ap, sym, ◌∙◌, arith, refl}
 use Rattle.std.specs.Prelude.{option_and_then}
 use Rattle.std.specs.List.{AllByRecursion}
 use Rattle.std.specs.Option.{option_map}
@@ -17,7 +18,8 @@ use Rattle.deck_shape.specs.FirstFault.{fault_or, first_of_lines, line_fault}
 use Rattle.site_rows.specs.Words.{row_words, is_no_site}
 use Rattle.lattice_deck.specs.Faultless.{IsCell}
 use Rattle.lattice_deck.specs.Faults.{row_lines}
-use Rattle.lattice_deck.specs.Joins.{crowds_at, crowds_by, has_bad_end, join_kind, join_of, join_on, join_row_kind, joins_itself, joins_of, kind_or, leads_back, sound_join}
+use Rattle.lattice_deck.specs.Joins.{crowds_at, crowds_by, has_bad_end, join_kind, join_of, join_on, join_row_kind, joins_itself}
+use Rattle.lattice_deck.specs.Joins.{joins_of, kind_or, leads_back, sound_join}
 use Rattle.lattice_deck.specs.declared.joins.JoinRow.{JoinRow}
 use Rattle.lattice_deck.specs.declared.sizes.Sizes.{Sizes}
 use Rattle.lattice_deck.proofs.CellSizes.{cell_sizes}
@@ -59,7 +61,8 @@ module _ (sites nx ny : ℕ) (columns : 1 ≤ nx) (rows : 1 ≤ ny) where
   back_is East = sym (leads nx ny columns rows East)
   back_is Southeast = sym (leads nx ny columns rows Southeast)
 
-  away : (row : JoinRow) → 1 ≤ row.from → 1 ≤ row.to → joins_itself (Some (nx, ny)) row ≡ false → row.from - 1 ≡ row.to - 1 → is_back nx ny row.toward ≡ false
+  away : (row : JoinRow) → 1 ≤ row.from → 1 ≤ row.to → joins_itself (Some (nx, ny)) row ≡ false
+      → row.from - 1 ≡ row.to - 1 → is_back nx ny row.toward ≡ false
   away row first second apart same =
       let e : row.from ≡ row.to = omega arith in
       elim (and_cases (row.from == row.to) (leads_back (Some (nx, ny)) row.toward) apart) [
@@ -84,7 +87,8 @@ module _ (sites nx ny : ℕ) (columns : 1 ≤ nx) (rows : 1 ≤ ny) where
   kind_none row false true is_bad is_itself none = cc
   kind_none row false false is_bad is_itself none = row_known row is_bad is_itself
 
-  on_known : (sizes : Sizes) → sizes.sites ≡ Some sites → sizes.repeats ≡ Some (nx, ny) → (row : Option JoinRow) → kind_or ROW_FORM (option_map (join_row_kind sizes) row) ≡ None
+  on_known : (sizes : Sizes) → sizes.sites ≡ Some sites → sizes.repeats ≡ Some (nx, ny) → (row : Option JoinRow)
+      → kind_or ROW_FORM (option_map (join_row_kind sizes) row) ≡ None
       → (join : Join) × (option_and_then (sound_join sites) row ≡ Some join) × IsInCell sites join × LeadsAway nx ny join
   on_known sizes known repeated None none = cc
   on_known sizes known repeated (Some row) none =
@@ -94,7 +98,8 @@ module _ (sites nx ny : ℕ) (columns : 1 ≤ nx) (rows : 1 ≤ ny) where
       ∙ none)
 
   -- so rows without a fault give joins
-  pub joins_known : (sizes : Sizes) → sizes.sites ≡ Some sites → sizes.repeats ≡ Some (nx, ny) → (rows : List WordLine) → first_of_lines (row_lines (join_kind sizes) rows) ≡ None
+  pub joins_known : (sizes : Sizes) → sizes.sites ≡ Some sites → sizes.repeats ≡ Some (nx, ny)
+      → (rows : List WordLine) → first_of_lines (row_lines (join_kind sizes) rows) ≡ None
       → (joins : List Join) × (joins_of sites rows ≡ Some joins) × AllByRecursion (λ join. IsInCell sites join × LeadsAway nx ny join) joins
   joins_known sizes known repeated [] none = ([], refl, tt)
   joins_known sizes known repeated (row ∷ rows) none =
@@ -106,12 +111,14 @@ module _ (sites nx ny : ℕ) (columns : 1 ≤ nx) (rows : 1 ≤ ny) where
       (here.0 ∷ rest.0, rw (is, behind) refl, ((here.2, here.3), rest.2))
 
 -- the neighbours of such a cell have no fault
-pub cell_sound : (sizes : Sizes) (names types : List (List ℕ)) (rows : List WordLine) → IsCell sizes names types rows → (sites nx ny : ℕ) → sizes.sites ≡ Some sites → sizes.repeats ≡ Some (nx, ny)
+pub cell_sound : (sizes : Sizes) (names types : List (List ℕ)) (rows : List WordLine) → IsCell sizes names types rows
+    → (sites nx ny : ℕ) → sizes.sites ≡ Some sites → sizes.repeats ≡ Some (nx, ny)
     → (joins : List Join) × (joins_of sites rows ≡ Some joins) × (first_fault (neighbour_lists nx ny sites joins) ≡ None)
 cell_sound sizes names types rows is sites nx ny known repeated =
     let bounds = cell_sizes sizes names types rows is sites nx ny known repeated in
     let found = joins_known sites nx ny bounds.columns bounds.rows sizes known repeated rows is.sound_rows in
-    let few = ap (crowds_by sites (nx, ny)) (sym found.1) ∙ ap (λ r. crowds_at (Some sites) r rows) (sym repeated) ∙ ap (λ s. crowds_at s sizes.repeats rows) (sym known) ∙ is.few_neighbours in
+    let few = ap (crowds_by sites (nx, ny)) (sym found.1) ∙ ap (λ r. crowds_at (Some sites) r rows) (sym repeated)
+    ∙ ap (λ s. crowds_at s sizes.repeats rows) (sym known) ∙ is.few_neighbours in
     (found.0, found.1, no_fault nx ny sites found.0 (none_itself nx ny sites bounds.columns bounds.rows found.0 found.2) few)
 
 -- a list has the length that is stated

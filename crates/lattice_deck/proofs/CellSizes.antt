@@ -1,7 +1,7 @@
 -- the numbers of a cell without a fault
 use Rattle.std.proofs.Common.{◌≡◌, ℕ, ◌*◌, ◌≤◌, List, length, Some, IsSomeAnd, sym, ◌∙◌, subst, arith}
 use Rattle.std.proofs.Math.Nat.{mul-le-mul_right}
-use Rattle.kmc_base.specs.declared.ids.TheConstants.{MAX_SITES}
+use Rattle.kmc_base.specs.declared.limits.TheConstants.{MAX_SITES}
 use Rattle.dec_text.specs.Lines.{WordLine}
 use Rattle.lattice_deck.specs.Faultless.{IsCell}
 use Rattle.lattice_deck.specs.Sizes.{AreRepeats}
@@ -27,7 +27,8 @@ pub cell_sizes : (sizes : Sizes) (names types : List (List ℕ)) (rows : List Wo
 cell_sizes sizes names types rows is sites nx ny known repeated =
     let same : Some (length types) ≡ Some sites = sym is.one_type_each ∙ known in
     let count : length types ≡ sites = cc in
-    let repeats : AreRepeats (nx, ny) × (nx * ny * length types ≤ MAX_SITES) = subst (λ r. IsSomeAnd r (λ p. AreRepeats p × (p.0 * p.1 * length types ≤ MAX_SITES))) repeated is.repeats in
+    let repeats : AreRepeats (nx, ny) × (nx * ny * length types ≤ MAX_SITES) =
+    subst (λ r. IsSomeAnd r (λ p. AreRepeats p × (p.0 * p.1 * length types ≤ MAX_SITES))) repeated is.repeats in
     let few : nx * ny * sites ≤ MAX_SITES = subst (λ n. nx * ny * n ≤ MAX_SITES) count repeats.1 in
     let some : 1 ≤ sites = subst (λ n. 1 ≤ n) count is.some_sites in
     let parts = factors nx ny sites MAX_SITES repeats.0.0 repeats.0.1 some few in

@@ -69,14 +69,18 @@ module _ (nx ny : ℕ) (columns : 1 ≤ nx) (rows : 1 ≤ ny) where
 
   pub displaced_injective : (t : Toward) (j k : ℕ) → j < nx * ny → k < nx * ny → displaced nx ny t j ≡ displaced nx ny t k → j ≡ k
   displaced_injective t j k first second same =
-      let pair = same_parts ((j / ny + steps_east t) % nx) ((j % ny + steps_north ny t) % ny) ((k / ny + steps_east t) % nx) ((k % ny + steps_north ny t) % ny) ny
+      let pair = same_parts ((j / ny + steps_east t) % nx) ((j % ny + steps_north ny t) % ny)
+      ((k / ny + steps_east t) % nx) ((k % ny + steps_north ny t) % ny) ny
       (mod_below _ ny (omega arith)) (mod_below _ ny (omega arith)) (sym (parts t j) ∙ same ∙ parts t k) in
-      let column : j / ny ≡ k / ny = step_injective (j / ny) (k / ny) (steps_east t) nx (column_below j first) (column_below k second) (few_east t) pair.0 in
+      let column : j / ny ≡ k / ny =
+      step_injective (j / ny) (k / ny) (steps_east t) nx (column_below j first) (column_below k second)
+      (few_east t) pair.0 in
       let row : j % ny ≡ k % ny = step_injective (j % ny) (k % ny) (steps_north ny t) ny (row_below j) (row_below k) (few_north t) pair.1 in
       sym (div-add-mod' j ny) ∙ ap (λ c. c * ny + j % ny) column ∙ ap (λ r. k / ny * ny + r) row ∙ div-add-mod' k ny
 
   -- a step that leads from a cell to itself goes around in both directions
-  still_parts : (t : Toward) (k : ℕ) → k < nx * ny → displaced nx ny t k ≡ k → ((k / ny + steps_east t) % nx ≡ k / ny) × ((k % ny + steps_north ny t) % ny ≡ k % ny)
+  still_parts : (t : Toward) (k : ℕ) → k < nx * ny → displaced nx ny t k ≡ k → ((k / ny + steps_east t) % nx ≡ k / ny)
+      × ((k % ny + steps_north ny t) % ny ≡ k % ny)
   still_parts t k low same =
       same_parts ((k / ny + steps_east t) % nx) ((k % ny + steps_north ny t) % ny) (k / ny) (k % ny) ny
       (mod_below _ ny (omega arith)) (row_below k) (sym (parts t k) ∙ same ∙ sym (div-add-mod' k ny))

@@ -46,4 +46,6 @@ module _ (nx ny : ℕ) (columns : 2 ≤ nx) (rows : 2 ≤ ny) where
   default_sound kind =
       no_fault nx ny 1 (default_joins kind)
       (none_itself nx ny 1 (omega arith) (omega arith) (default_joins kind) (all_away kind))
-      (few_lists nx ny 1 (default_joins kind) (λ s. let few = few_joined nx ny 1 (omega arith) (omega arith) (default_joins kind) s 0 (nx * ny * 1) (all_inside kind) in let three = few_joins kind in omega (arith, few, three)))
+      (few_lists nx ny 1 (default_joins kind)
+      (λ s. let few = few_joined nx ny 1 (omega arith) (omega arith) (default_joins kind) s 0 (nx * ny * 1)
+      (all_inside kind) in let three = few_joins kind in omega (arith, few, three)))

@@ -1,11 +1,12 @@
 -- the words of a default lattice
-use Rattle.std.proofs.Common.{◌≡◌, ℕ, ◌*◌, ◌≤◌, ◌==◌, ◌||◌, ◌⊎◌, Bool, true, false, List, [], ◌∷◌, Option, None, Some, inl, inr, ap, sym, ◌∙◌, arith, refl}
+use Rattle.std.proofs.Common.{◌≡◌, ℕ, ◌*◌, ◌≤◌, ◌==◌, ◌||◌, ◌⊎◌, Bool, true, false, List, [], ◌∷◌, Option, None, Some, inl, inr, ap, sym}
+use Rattle.std.proofs.Common.{◌∙◌, arith, refl}
 use Rattle.std.proofs.lemmas.Bool.{cases_eq, eqb-false, ltb-false}
-use Rattle.kmc_base.specs.declared.ids.TheConstants.{MAX_SITES}
+use Rattle.kmc_base.specs.declared.limits.TheConstants.{MAX_SITES}
 use Rattle.deck_shape.specs.Lists.{fault_if}
-use Rattle.deck_shape.specs.Numbers.{lesser, number_kind, numbers_kind}
+use Rattle.deck_shape.specs.Numbers.{lesser, number_fault, numbers_fault}
 use Rattle.deck_shape.specs.declared.kind.TheConstants.{SELF_NEIGHBOUR, TOO_MANY_SITES}
-use Rattle.deck_shape.specs.declared.number.Number.TheVariants.{Unused}
+use Rattle.deck_shape.specs.declared.number.NumberForm.TheVariants.{Unused}
 use Rattle.lattice_core.specs.declared.fault.GraphFault.{GraphFault}
 use Rattle.lattice_core.specs.declared.fault.GraphFault.TheVariants.{OutOfMemory}
 use Rattle.lattice_deck.specs.Faultless.{IsDefault}
@@ -49,14 +50,17 @@ default_known (a ∷ x ∷ []) is = let h = is.three in absurd (omega arith)
 default_known (a ∷ x ∷ y ∷ z ∷ words) is = let h = is.three in absurd (omega arith)
 default_known (a ∷ x ∷ y ∷ []) is =
     let repeats = x ∷ y ∷ [] in
-    let outer = neither (number_kind Unused a) (lesser (repeats_kind (Some 1) repeats) (fault_if (is_narrow (repeats_of repeats)) SELF_NEIGHBOUR)) is.no_fault in
+    let outer = neither (number_fault Unused a)
+    (lesser (repeats_kind (Some 1) repeats) (fault_if (is_narrow (repeats_of repeats)) SELF_NEIGHBOUR))
+    is.no_fault in
     let inner = neither (repeats_kind (Some 1) repeats) (fault_if (is_narrow (repeats_of repeats)) SELF_NEIGHBOUR) outer.1 in
-    let kinds = neither (numbers_kind REPEAT repeats) (fault_if (gives_too_many (Some 1) (repeats_of repeats)) TOO_MANY_SITES) inner.0 in
+    let kinds = neither (numbers_fault REPEAT repeats) (fault_if (gives_too_many (Some 1) (repeats_of repeats)) TOO_MANY_SITES) inner.0 in
     let known = repeats_known x y kinds.0 in
     let same = known.1 in
     let range : AreRepeats known.0 = rw same at (repeats_range repeats) in
     let narrow : is_narrow (Some known.0) ≡ false = ap is_narrow (sym same) ∙ not_held (is_narrow (repeats_of repeats)) SELF_NEIGHBOUR inner.1 in
-    let many : gives_too_many (Some 1) (Some known.0) ≡ false = ap (gives_too_many (Some 1)) (sym same) ∙ not_held (gives_too_many (Some 1) (repeats_of repeats)) TOO_MANY_SITES kinds.1 in
+    let many : gives_too_many (Some 1) (Some known.0) ≡ false = ap (gives_too_many (Some 1)) (sym same)
+    ∙ not_held (gives_too_many (Some 1) (repeats_of repeats)) TOO_MANY_SITES kinds.1 in
     (known.0, same, wide known.0 range narrow many)
 
 -- neighbours without a fault leave want of memory alone

@@ -19,7 +19,8 @@ none_first : (a b : Option (ℕ × ℕ)) → is_some a ≡ false → fault_or a 
 none_first None b h = refl
 none_first (Some a) b h = absurd (true≢false h)
 
-module _ (kind : List (List ℕ) → Option ℕ) (text : List ℕ) (rows : List Line) (i : ℕ) (row : Line) (here : i < length rows) (is : row ≡ get_or rows i row) where
+module _ (kind : List (List ℕ) → Option ℕ) (text : List ℕ) (rows : List Line) (i : ℕ) (row : Line)
+    (here : i < length rows) (is : row ≡ get_or rows i row) where
   -- the first fault of the rows that are left
   rows_left : ℕ → Option (ℕ × ℕ)
   rows_left k = first_of_lines (row_lines kind (map (line_at text) (drop k rows)))

@@ -1,19 +1,21 @@
 -- the numbers that a file states
-use Rattle.std.proofs.Common.{◌≡◌, ℕ, ◌*◌, ◌≤◌, Bool, true, false, List, [], ◌∷◌, Option, None, Some, IfSome, Result, Ok, Err, cond, inl, inr, arith, refl, is_none, nat_le, nat_lt, if◌then◌else◌}
+use Rattle.std.proofs.Common.{◌≡◌, ℕ, ◌*◌, ◌≤◌, Bool, true, false, List, [], ◌∷◌, Option, None, Some, IfSome, Result, Ok, Err, cond, inl}
+use Rattle.std.proofs.Common.{inr, arith, refl, is_none, nat_le, nat_lt, if◌then◌else◌}
 use Rattle.std.specs.Prelude.{option_and_then}
 use Rattle.std.proofs.Math.Nat.{mul-le-mul_left, mul-le-mul_right}
 use Rattle.std.proofs.lemmas.Bool.{cases_Bool, and_parts, leb-true, lt-ltb, ltb-false, false≢true}
-use Rattle.kmc_base.specs.declared.ids.TheConstants.{MAX_SITES}
+use Rattle.kmc_base.specs.declared.limits.TheConstants.{MAX_SITES}
 use Rattle.dec_text.specs.Wholes.{whole_number}
 use Rattle.dec_text.specs.declared.faults.NotWhole.{NotWhole}
 use Rattle.deck_shape.specs.Blocks.{ItemLines}
 use Rattle.deck_shape.specs.Items.{words_behind}
 use Rattle.deck_shape.specs.Lists.{fault_if}
-use Rattle.deck_shape.specs.Numbers.{is_whole_within, lesser, numbers_kind, whole_kind, whole_value}
+use Rattle.deck_shape.specs.Numbers.{is_whole_within, lesser, numbers_fault, whole_kind, whole_value}
 use Rattle.deck_shape.specs.declared.keyword.Keyword.{Keyword}
 use Rattle.deck_shape.specs.declared.keyword.Keyword.TheVariants.{NCellSites, NSiteTypes, NSites, RepeatCell}
 use Rattle.deck_shape.specs.declared.kind.TheConstants.{OUT_OF_RANGE, TOO_MANY_SITES}
-use Rattle.lattice_deck.specs.Sizes.{AreRepeats, IsSizes, gives_too_many, or_else, repeats_kind, repeats_of, sites_in, sizes_in, sound_repeats, stated, whole_of}
+use Rattle.lattice_deck.specs.Sizes.{AreRepeats, IsSizes, gives_too_many, or_else, repeats_kind, repeats_of, sites_in, sizes_in}
+use Rattle.lattice_deck.specs.Sizes.{sound_repeats, stated, whole_of}
 use Rattle.lattice_deck.specs.declared.forms.TheConstants.{REPEAT}
 use Rattle.lattice_deck.specs.declared.sizes.Sizes.{Sizes}
 use Rattle.site_rows.specs.declared.type_word.TheConstants.{MAX_SITE_TYPES}
@@ -28,7 +30,8 @@ within most n true is =
     let low = leb-true 1 n parts.0 in
     elim (nat_lt 0 n) as (λ b. IfSome (if b then Some n else None) (IsUpTo most)) [ true ↦ (low, leb-true n most parts.1) | false ↦ tt ]
 
-value_within : (most : ℕ) (r : Result ℕ NotWhole) → IfSome (if nat_lt 0 (whole_value 1 most 0 r) then Some (whole_value 1 most 0 r) else None) (IsUpTo most)
+value_within : (most : ℕ) (r : Result ℕ NotWhole)
+    → IfSome (if nat_lt 0 (whole_value 1 most 0 r) then Some (whole_value 1 most 0 r) else None) (IsUpTo most)
 value_within most (Err e) = tt
 value_within most (Ok n) = within most n (is_whole_within 1 most n) refl
 
@@ -37,13 +40,16 @@ whole_range most [] = tt
 whole_range most (word ∷ words) = value_within most (whole_number word)
 
 stated_range : (keyword : Keyword) (most : ℕ) (items : List ItemLines) → IfSome (stated keyword most items) (IsUpTo most)
-stated_range keyword most items = elim (words_behind keyword items) as (λ w. IfSome (option_and_then (whole_of most) w) (IsUpTo most)) [ None ↦ tt | Some words ↦ whole_range most words ]
+stated_range keyword most items =
+    elim (words_behind keyword items) as (λ w. IfSome (option_and_then (whole_of most) w) (IsUpTo most))
+    [ None ↦ tt | Some words ↦ whole_range most words ]
 
 either_range : (a b : Option ℕ) (most : ℕ) → IfSome a (IsUpTo most) → IfSome b (IsUpTo most) → IfSome (or_else a b) (IsUpTo most)
 either_range None b most first second = second
 either_range (Some n) b most first second = first
 
-pair_range : (a b : Option ℕ) (most : ℕ) → IfSome a (IsUpTo most) → IfSome b (IsUpTo most) → IfSome (option_and_then (λ nx. option_and_then (λ ny. Some (nx, ny)) b) a) AreRepeats
+pair_range : (a b : Option ℕ) (most : ℕ) → IfSome a (IsUpTo most) → IfSome b (IsUpTo most)
+    → IfSome (option_and_then (λ nx. option_and_then (λ ny. Some (nx, ny)) b) a) AreRepeats
 pair_range None b most first second = tt
 pair_range (Some nx) None most first second = tt
 pair_range (Some nx) (Some ny) most first second = (first.0, second.0)
@@ -51,10 +57,14 @@ pair_range (Some nx) (Some ny) most first second = (first.0, second.0)
 pub repeats_range : (words : List (List ℕ)) → IfSome (repeats_of words) AreRepeats
 repeats_range [] = tt
 repeats_range (x ∷ []) = tt
-repeats_range (x ∷ y ∷ words) = pair_range (whole_of 18446744073709551615 (x ∷ [])) (whole_of 18446744073709551615 (y ∷ [])) 18446744073709551615 (whole_range 18446744073709551615 (x ∷ [])) (whole_range 18446744073709551615 (y ∷ []))
+repeats_range (x ∷ y ∷ words) =
+    pair_range (whole_of 18446744073709551615 (x ∷ [])) (whole_of 18446744073709551615 (y ∷ [])) 18446744073709551615
+    (whole_range 18446744073709551615 (x ∷ [])) (whole_range 18446744073709551615 (y ∷ []))
 
 sound_range : (sites : Option ℕ) (words : List (List ℕ)) → IfSome (sound_repeats sites words) AreRepeats
-sound_range sites words = elim (is_none (repeats_kind sites words)) as (λ b. IfSome (if b then repeats_of words else None) AreRepeats) [ true ↦ repeats_range words | false ↦ tt ]
+sound_range sites words =
+    elim (is_none (repeats_kind sites words)) as (λ b. IfSome (if b then repeats_of words else None) AreRepeats)
+    [ true ↦ repeats_range words | false ↦ tt ]
 
 behind_range : (sites : Option ℕ) (words : Option (List (List ℕ))) → IfSome (option_and_then (sound_repeats sites) words) AreRepeats
 behind_range sites None = tt
@@ -65,7 +75,9 @@ second_none : (a b : Option ℕ) → is_none (lesser a b) ≡ true → b ≡ Non
 second_none None None h = refl
 second_none None (Some b) h = absurd (false≢true h)
 second_none (Some a) None h = refl
-second_none (Some a) (Some b) h = absurd (elim (nat_le a b) as (λ c. is_none (if c then Some a else Some b) ≡ true → ⊥) [ true ↦ (λ k. false≢true k) | false ↦ (λ k. false≢true k) ] h)
+second_none (Some a) (Some b) h =
+    absurd (elim (nat_le a b) as (λ c. is_none (if c then Some a else Some b) ≡ true
+    → ⊥) [ true ↦ (λ k. false≢true k) | false ↦ (λ k. false≢true k) ] h)
 
 pub not_held : (holds : Bool) (kind : ℕ) → fault_if holds kind ≡ None → holds ≡ false
 not_held false kind h = refl
@@ -75,7 +87,9 @@ not_held true kind h = cc
 pub neither : (a b : Option ℕ) → lesser a b ≡ None → (a ≡ None) × (b ≡ None)
 neither None b h = (refl, h)
 neither (Some a) None h = cc
-neither (Some a) (Some b) h = absurd (elim (nat_le a b) as (λ c. (if c then Some a else Some b) ≡ None → ⊥) [ true ↦ (λ k. cc) | false ↦ (λ k. cc) ] h)
+neither (Some a) (Some b) h =
+    absurd (elim (nat_le a b) as (λ c. (if c then Some a else Some b) ≡ None
+    → ⊥) [ true ↦ (λ k. cc) | false ↦ (λ k. cc) ] h)
 
 -- a whole number without a fault is known
 whole_in : (most n : ℕ) (b : Bool) → is_whole_within 1 most n ≡ b → (if b then None else Some OUT_OF_RANGE) ≡ None
@@ -87,17 +101,20 @@ whole_in most n true is none =
     let some : nat_lt 0 n ≡ true = lt-ltb 0 n (omega arith) in
     (n, rw some refl)
 
-whole_by : (most : ℕ) (r : Result ℕ NotWhole) → whole_kind 1 most r ≡ None → (m : ℕ) × ((if nat_lt 0 (whole_value 1 most 0 r) then Some (whole_value 1 most 0 r) else None) ≡ Some m)
+whole_by : (most : ℕ) (r : Result ℕ NotWhole) → whole_kind 1 most r ≡ None
+    → (m : ℕ) × ((if nat_lt 0 (whole_value 1 most 0 r) then Some (whole_value 1 most 0 r) else None) ≡ Some m)
 whole_by most (Err e) none = cc
 whole_by most (Ok n) none = whole_in most n (is_whole_within 1 most n) refl none
 
-pub whole_known : (most : ℕ) (word : List ℕ) (words : List (List ℕ)) → whole_kind 1 most (whole_number word) ≡ None → (m : ℕ) × (whole_of most (word ∷ words) ≡ Some m)
+pub whole_known : (most : ℕ) (word : List ℕ) (words : List (List ℕ)) → whole_kind 1 most (whole_number word) ≡ None
+    → (m : ℕ) × (whole_of most (word ∷ words) ≡ Some m)
 whole_known most word words none = whole_by most (whole_number word) none
 
 -- two repeats without a fault are known
-pub repeats_known : (x y : List ℕ) → numbers_kind REPEAT (x ∷ y ∷ []) ≡ None → (r : ℕ × ℕ) × (repeats_of (x ∷ y ∷ []) ≡ Some r)
+pub repeats_known : (x y : List ℕ) → numbers_fault REPEAT (x ∷ y ∷ []) ≡ None → (r : ℕ × ℕ) × (repeats_of (x ∷ y ∷ []) ≡ Some r)
 repeats_known x y none =
-    let parts = neither (whole_kind 1 18446744073709551615 (whole_number x)) (lesser (whole_kind 1 18446744073709551615 (whole_number y)) None) none in
+    let parts = neither (whole_kind 1 18446744073709551615 (whole_number x))
+    (lesser (whole_kind 1 18446744073709551615 (whole_number y)) None) none in
     let rest = neither (whole_kind 1 18446744073709551615 (whole_number y)) None parts.1 in
     let first = whole_known 18446744073709551615 x [] parts.0 in
     let second = whole_known 18446744073709551615 y [] rest.0 in
@@ -109,19 +126,23 @@ few_repeats sites words nx ny is =
     elim (cases_Bool (is_none (repeats_kind (Some sites) words))) [
       | inl none ↦
           let same : repeats_of words ≡ Some (nx, ny) = rw none at is in
-          let few = not_held (gives_too_many (Some sites) (repeats_of words)) TOO_MANY_SITES (second_none (numbers_kind REPEAT words) (fault_if (gives_too_many (Some sites) (repeats_of words)) TOO_MANY_SITES) none) in
+          let few = not_held (gives_too_many (Some sites) (repeats_of words)) TOO_MANY_SITES
+          (second_none (numbers_fault REPEAT words)
+          (fault_if (gives_too_many (Some sites) (repeats_of words)) TOO_MANY_SITES) none) in
           ltb-false MAX_SITES (nx * ny * sites) (rw same at few)
       | inr some ↦ let no : None ≡ Some (nx, ny) = rw some at is in cc
     ]
 
-few_behind : (all : Option ℕ) (words : Option (List (List ℕ))) (sites nx ny : ℕ) → all ≡ Some sites → option_and_then (sound_repeats all) words ≡ Some (nx, ny) → nx * ny * sites ≤ MAX_SITES
+few_behind : (all : Option ℕ) (words : Option (List (List ℕ))) (sites nx ny : ℕ) → all ≡ Some sites
+    → option_and_then (sound_repeats all) words ≡ Some (nx, ny) → nx * ny * sites ≤ MAX_SITES
 few_behind all None sites nx ny known is = cc
 few_behind None (Some words) sites nx ny known is = cc
 few_behind (Some all) (Some words) sites nx ny known is = let e : all ≡ sites = cc in few_repeats sites words nx ny (rw e at is)
 
 pub sizes_sound : (items : List ItemLines) → IsSizes (sizes_in items)
 sizes_sound items = record {
-  sites = either_range (stated NCellSites MAX_SITES items) (stated NSites MAX_SITES items) MAX_SITES (stated_range NCellSites MAX_SITES items) (stated_range NSites MAX_SITES items);
+  sites = either_range (stated NCellSites MAX_SITES items) (stated NSites MAX_SITES items) MAX_SITES
+      (stated_range NCellSites MAX_SITES items) (stated_range NSites MAX_SITES items);
   types = stated_range NSiteTypes MAX_SITE_TYPES items;
   repeats = behind_range (sites_in items) (words_behind RepeatCell items);
   few = few_behind (sites_in items) (words_behind RepeatCell items);

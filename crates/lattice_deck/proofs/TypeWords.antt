@@ -19,7 +19,8 @@ find_mapped p h [] = refl
 find_mapped p h (y ∷ ys) = ⊎_elim (λ e. rw e refl) (λ e. rw e (find_mapped p h ys)) (cases_Bool (p (h y)))
 
 -- the first name that is no type gives the first type word that is none
-pub unknown_word : (text : List ℕ) (names : List (List ℕ)) (words : List Name) (r : Option Name) → r ≡ find (λ word. type_of names (bytes_at text word.span) == 0) words
+pub unknown_word : (text : List ℕ) (names : List (List ℕ)) (words : List Name) (r : Option Name)
+    → r ≡ find (λ word. type_of names (bytes_at text word.span) == 0) words
     → option_map (λ (word : Name). (word.line, UNKNOWN_TYPE)) r ≡ unknown_type names (map (name_at text) words)
 unknown_word text names words r is =
     let f : NameWord → ℕ × ℕ = λ word. (word.line, UNKNOWN_TYPE) in

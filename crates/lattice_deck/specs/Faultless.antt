@@ -5,11 +5,14 @@ use Rattle.dec_text.specs.Lines.{WordLine}
 use Rattle.deck_shape.specs.Blocks.{ItemLines}
 use Rattle.deck_shape.specs.Items.{list_in, words_behind}
 use Rattle.deck_shape.specs.Lists.{names_repeat}
-use Rattle.deck_shape.specs.declared.keyword.Keyword.TheVariants.{HexagonalPeriodic, LatticeStructure, NeighboringStructure, RectangularPeriodic, SiteTypeNames, SiteTypes}
-use Rattle.deck_shape.specs.declared.table.BlockKind.{BlockKind}
-use Rattle.deck_shape.specs.declared.table.BlockKind.TheVariants.{Simulation, LatticeFile, DefaultChoice, PeriodicCell, Explicit, NeighboringStructure as NeighboringRows, LatticeStructure as LatticeRows}
+use Rattle.deck_shape.specs.declared.keyword.Keyword.TheVariants.{HexagonalPeriodic, LatticeStructure, NeighboringStructure}
+use Rattle.deck_shape.specs.declared.keyword.Keyword.TheVariants.{RectangularPeriodic, SiteTypeNames, SiteTypes}
+use Rattle.deck_shape.specs.declared.table.BlockForm.{BlockForm}
+use Rattle.deck_shape.specs.declared.table.BlockForm.TheVariants.{Simulation, LatticeFile, DefaultChoice, PeriodicCell, Explicit}
+use Rattle.deck_shape.specs.declared.table.BlockForm.TheVariants.{NeighboringStructure as NeighboringRows}
+use Rattle.deck_shape.specs.declared.table.BlockForm.TheVariants.{LatticeStructure as LatticeRows}
 use Rattle.deck_shape.specs.FirstFault.{first_of_lines}
-use Rattle.kmc_base.specs.declared.ids.TheConstants.{MAX_SITES}
+use Rattle.kmc_base.specs.declared.limits.TheConstants.{MAX_SITES}
 use Rattle.lattice_deck.specs.Faults.{default_kind, row_lines}
 use Rattle.lattice_deck.specs.Joins.{crowds, join_kind}
 use Rattle.lattice_deck.specs.Parts.{rows_in}
@@ -58,7 +61,7 @@ pub record IsExplicit (sizes : Sizes) (names : List (List ℕ)) (rows : List Wor
   pub sound_rows : first_row_fault sizes.sites rows ≡ None
 
 -- the words and rows that make the lattice have no fault; the last four are kinds of no lattice
-abbrev pub AreFaultless : BlockKind → List ItemLines → Type 0
+abbrev pub AreFaultless : BlockForm → List ItemLines → Type 0
 AreFaultless DefaultChoice items = HasDefault items
 AreFaultless PeriodicCell items = IsCell (sizes_in items) (list_in SiteTypeNames items) (list_in SiteTypes items) (rows_in NeighboringStructure items)
 AreFaultless Explicit items = IsExplicit (sizes_in items) (list_in SiteTypeNames items) (rows_in LatticeStructure items)

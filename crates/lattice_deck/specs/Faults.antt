@@ -7,9 +7,9 @@ use Rattle.deck_shape.specs.Forms.{form_of}
 use Rattle.deck_shape.specs.Items.{words_of}
 use Rattle.deck_shape.specs.LineWords.{head_of}
 use Rattle.deck_shape.specs.Lists.{fault_if, has_other_length}
-use Rattle.deck_shape.specs.Numbers.{lesser, number_kind, numbers_kind}
+use Rattle.deck_shape.specs.Numbers.{lesser, number_fault, numbers_fault}
 use Rattle.deck_shape.specs.declared.kind.TheConstants.{LIST_LENGTH, ROW_COUNT, SELF_NEIGHBOUR, TOO_MANY_NEIGHBOURS}
-use Rattle.deck_shape.specs.declared.number.Number.TheVariants.{Unused}
+use Rattle.deck_shape.specs.declared.number.NumberForm.TheVariants.{Unused}
 use Rattle.deck_shape.specs.FirstFault.{fault_or, first_of_lines, line_fault}
 use Rattle.lattice_deck.specs.RowKinds.{kind_of}
 use Rattle.lattice_deck.specs.Coordinates.{coordinates_kind}
@@ -17,7 +17,7 @@ use Rattle.lattice_deck.specs.Joins.{crowds, join_kind}
 use Rattle.lattice_deck.specs.Sizes.{repeats_kind, repeats_of, sizes_in}
 use Rattle.lattice_deck.specs.Types.{type_names_kind}
 use Rattle.lattice_deck.specs.declared.forms.Form.{Form}
-use Rattle.lattice_deck.specs.declared.forms.Form.TheVariants.{Number, Repeats, TypeNames, Types, Coordinates, Joins, SiteRows, Default}
+use Rattle.lattice_deck.specs.declared.forms.Form.TheVariants.{NumberForm, Repeats, TypeNames, Types, Coordinates, Joins, SiteRows, Default}
 use Rattle.lattice_deck.specs.declared.forms.RowCount.{RowCount}
 use Rattle.lattice_deck.specs.declared.forms.RowCount.TheVariants.{Exactly, OnePerSite}
 use Rattle.lattice_deck.specs.declared.forms.TheConstants.{FORMS}
@@ -43,11 +43,11 @@ is_narrow (Some repeats) = repeats.0 == 1 || repeats.1 == 1
 abbrev pub default_kind : List (List ℕ) → Option ℕ
 default_kind [] = None
 default_kind (constant ∷ repeats) =
-    lesser (number_kind Unused constant) (lesser (repeats_kind (Some 1) repeats) (fault_if (is_narrow (repeats_of repeats)) SELF_NEIGHBOUR))
+    lesser (number_fault Unused constant) (lesser (repeats_kind (Some 1) repeats) (fault_if (is_narrow (repeats_of repeats)) SELF_NEIGHBOUR))
 
 -- the fault of the line of a word
 abbrev pub word_kind : Sizes → Form → ItemLines → Option ℕ
-word_kind sizes (Number number) item = numbers_kind number (words_of item)
+word_kind sizes (NumberForm number) item = numbers_fault number (words_of item)
 word_kind sizes Repeats item = repeats_kind sizes.sites (words_of item)
 word_kind sizes TypeNames item = type_names_kind sizes.types (words_of item)
 word_kind sizes Types item = fault_if (has_other_length sizes.sites (length (words_of item))) LIST_LENGTH
@@ -66,7 +66,7 @@ site_rows_fault sites rows = option_map (λ fault. (fault.0, kind_of fault.1)) (
 
 -- the first fault of the rows of a word of this form
 abbrev pub rows_fault : Sizes → Form → List WordLine → Option (ℕ × ℕ)
-rows_fault sizes (Number number) rows = None
+rows_fault sizes (NumberForm number) rows = None
 rows_fault sizes Repeats rows = None
 rows_fault sizes TypeNames rows = None
 rows_fault sizes Types rows = None

@@ -1,11 +1,11 @@
 -- What is true of the forms of the table.
 use Rattle.deck_shape.specs.Numbers.{IsNumber}
 use Rattle.lattice_deck.specs.declared.forms.Form.{Form}
-use Rattle.lattice_deck.specs.declared.forms.Form.TheVariants.{Number, Repeats, TypeNames, Types, Coordinates, Joins, SiteRows, Default}
+use Rattle.lattice_deck.specs.declared.forms.Form.TheVariants.{NumberForm, Repeats, TypeNames, Types, Coordinates, Joins, SiteRows, Default}
 
 -- the numbers have bounds that a decimal can be compared with
 abbrev pub IsForm : Form → Type 0
-IsForm (Number number) = IsNumber number
+IsForm (NumberForm number) = IsNumber number
 IsForm Repeats = Unit {0}
 IsForm TypeNames = Unit {0}
 IsForm Types = Unit {0}

@@ -1,6 +1,7 @@
 -- The rows of `neighboring_structure` (Zacros manual): `i-j D` joins site i of each cell to site j of the cell that the
 -- displacement D leads to.
-use Rattle.std.specs.Prelude.{ℕ, ◌-◌, ◌==◌, ◌&&◌, ◌||◌, Bool, true, false, List, [], ◌∷◌, length, Option, None, Some, codes, if◌then◌else◌, nat_lt, option_and_then}
+use Rattle.std.specs.Prelude.{ℕ, ◌-◌, ◌==◌, ◌&&◌, ◌||◌, Bool, true, false, List, [], ◌∷◌, length, Option, None, Some, codes}
+use Rattle.std.specs.Prelude.{if◌then◌else◌, nat_lt, option_and_then}
 use Rattle.std.specs.List.{after_first, before_first, list_any}
 use Rattle.std.specs.Option.{option_map}
 use Rattle.std.specs.Result.{result_ok}
@@ -39,7 +40,8 @@ is_dash b = b == 45
 -- the two whole numbers of an edge `i-j`
 abbrev pub edge_of : List ℕ → Option (ℕ × ℕ)
 edge_of word =
-    option_and_then (λ i. option_map (λ j. (i, j)) (result_ok (whole_number (after_first is_dash word)))) (result_ok (whole_number (before_first is_dash word)))
+    option_and_then (λ i. option_map (λ j. (i, j)) (result_ok (whole_number (after_first is_dash word))))
+    (result_ok (whole_number (before_first is_dash word)))
 
 -- the row that two words write
 abbrev pub join_of : List (List ℕ) → Option JoinRow

@@ -8,9 +8,12 @@ use Rattle.deck_shape.specs.Items.{list_in, names_in, words_behind}
 use Rattle.deck_shape.specs.LineWords.{first_of, after_first}
 use Rattle.deck_shape.specs.Names.{NameWord, name_at, on_line}
 use Rattle.deck_shape.specs.declared.keyword.Keyword.{Keyword}
-use Rattle.deck_shape.specs.declared.keyword.Keyword.TheVariants.{HexagonalPeriodic, LatticeStructure, NeighboringStructure, RectangularPeriodic, SiteTypeNames, SiteTypes}
-use Rattle.deck_shape.specs.declared.table.BlockKind.{BlockKind}
-use Rattle.deck_shape.specs.declared.table.BlockKind.TheVariants.{Simulation, LatticeFile, DefaultChoice, PeriodicCell, Explicit, NeighboringStructure as NeighboringRows, LatticeStructure as LatticeRows}
+use Rattle.deck_shape.specs.declared.keyword.Keyword.TheVariants.{HexagonalPeriodic, LatticeStructure, NeighboringStructure}
+use Rattle.deck_shape.specs.declared.keyword.Keyword.TheVariants.{RectangularPeriodic, SiteTypeNames, SiteTypes}
+use Rattle.deck_shape.specs.declared.table.BlockForm.{BlockForm}
+use Rattle.deck_shape.specs.declared.table.BlockForm.TheVariants.{Simulation, LatticeFile, DefaultChoice, PeriodicCell, Explicit}
+use Rattle.deck_shape.specs.declared.table.BlockForm.TheVariants.{NeighboringStructure as NeighboringRows}
+use Rattle.deck_shape.specs.declared.table.BlockForm.TheVariants.{LatticeStructure as LatticeRows}
 use Rattle.lattice_cell.specs.Default.{default_lattice}
 use Rattle.lattice_cell.specs.Periodic.{periodic_lattice}
 use Rattle.lattice_cell.specs.declared.expand.DefaultLattice.{DefaultLattice}
@@ -50,7 +53,9 @@ behind_constant (constant ∷ repeats) = repeats
 
 -- the default lattice of these words
 abbrev pub default_of : DefaultLattice → List (List ℕ) → Lattice
-default_of kind words = option_map_or (λ r. default_lattice kind r.0 r.1) (repeats_of (behind_constant words)) (record { types = []; neighbours = [] })
+default_of kind words =
+    option_map_or (λ r. default_lattice kind r.0 r.1) (repeats_of (behind_constant words))
+    (record { types = []; neighbours = [] })
 
 -- the default lattice of a file, whose one type has the name StTp1
 abbrev pub default_values : List ItemLines → LatticeValues
@@ -87,7 +92,7 @@ explicit_values items = record {
 }
 
 -- the values of a block, by its kind; the last four are the kinds of no lattice
-abbrev pub values_of : BlockKind → List ItemLines → LatticeValues
+abbrev pub values_of : BlockForm → List ItemLines → LatticeValues
 values_of DefaultChoice items = default_values items
 values_of PeriodicCell items = cell_values items
 values_of Explicit items = explicit_values items

@@ -1,11 +1,12 @@
 -- The numbers of a lattice file that other lines depend on; None where the line that states one has a fault.
-use Rattle.std.specs.Prelude.{ℕ, ◌≡◌, ◌≤◌, ◌*◌, IfSome, Bool, false, List, [], ◌∷◌, Option, None, Some, if◌then◌else◌, is_none, nat_lt, option_and_then}
-use Rattle.kmc_base.specs.declared.ids.TheConstants.{MAX_SITES}
+use Rattle.std.specs.Prelude.{ℕ, ◌≡◌, ◌≤◌, ◌*◌, IfSome, Bool, false, List, [], ◌∷◌, Option, None, Some, if◌then◌else◌, is_none, nat_lt}
+use Rattle.std.specs.Prelude.{option_and_then}
+use Rattle.kmc_base.specs.declared.limits.TheConstants.{MAX_SITES}
 use Rattle.dec_text.specs.Wholes.{whole_number}
 use Rattle.deck_shape.specs.Blocks.{ItemLines}
 use Rattle.deck_shape.specs.Items.{words_behind}
 use Rattle.deck_shape.specs.Lists.{fault_if}
-use Rattle.deck_shape.specs.Numbers.{lesser, numbers_kind, whole_value}
+use Rattle.deck_shape.specs.Numbers.{lesser, numbers_fault, whole_value}
 use Rattle.deck_shape.specs.declared.keyword.Keyword.{Keyword}
 use Rattle.deck_shape.specs.declared.keyword.Keyword.TheVariants.{NCellSites, NSiteTypes, NSites, RepeatCell}
 use Rattle.deck_shape.specs.declared.kind.TheConstants.{TOO_MANY_SITES}
@@ -34,7 +35,7 @@ gives_too_many (Some sites) (Some repeats) = nat_lt MAX_SITES (repeats.0 * repea
 
 -- the fault of two repeats of a cell of so many sites
 abbrev pub repeats_kind : Option ℕ → List (List ℕ) → Option ℕ
-repeats_kind sites words = lesser (numbers_kind REPEAT words) (fault_if (gives_too_many sites (repeats_of words)) TOO_MANY_SITES)
+repeats_kind sites words = lesser (numbers_fault REPEAT words) (fault_if (gives_too_many sites (repeats_of words)) TOO_MANY_SITES)
 
 -- the repeats of some words, where their line has no fault
 abbrev pub sound_repeats : Option ℕ → List (List ℕ) → Option (ℕ × ℕ)

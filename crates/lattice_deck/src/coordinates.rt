@@ -4,7 +4,7 @@ ghost use Rattle.lattice_deck.specs.Coordinates.{as_row, coordinates_kind};
 
 use dec_text::Span;
 use deck_shape::kind::{NOT_NUMBER, ROW_FORM};
-use deck_shape::{Number, numbers_kind};
+use deck_shape::{NumberForm, numbers_fault};
 
 /// At a row a word of another form is a fault of the row's form.
 fn as_row(kind: Option<u8>) -> Option<u8>
@@ -21,7 +21,7 @@ pub(crate) fn coordinates_kind(bytes: &[u8], words: &[Span]) -> Option<u8>
     ensures { result ≡ coordinates_kind (map (bytes_at bytes.now) words.now) }
 {
     if words.len() == 2 {
-        as_row(numbers_kind(Number::Unused, bytes, words))
+        as_row(numbers_fault(NumberForm::Unused, bytes, words))
     } else {
         Some(ROW_FORM)
     }

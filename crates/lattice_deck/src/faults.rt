@@ -20,7 +20,7 @@ use crate::types::type_names_kind;
 use dec_text::{Line, Span};
 use deck_shape::kind::{LIST_LENGTH, ROW_COUNT, SELF_NEIGHBOUR, TOO_MANY_NEIGHBOURS};
 use deck_shape::{
-    Block, Item, Number, fault_if, has_other_length, lesser, number_kind, numbers_kind,
+    Block, Item, NumberForm, fault_if, has_other_length, lesser, number_fault, numbers_fault,
 };
 use kmc_base::OutOfMemory;
 use site_rows::row_words;
@@ -69,7 +69,7 @@ fn default_kind(bytes: &[u8], words: &[Span]) -> Option<u8>
         return None;
     };
     lesser(
-        number_kind(Number::Unused, constant.bytes(bytes)),
+        number_fault(NumberForm::Unused, constant.bytes(bytes)),
         lesser(
             repeats_kind(Some(1), bytes, repeats),
             fault_if(is_narrow(repeats_of(bytes, repeats)), SELF_NEIGHBOUR),
@@ -106,7 +106,7 @@ fn word_kind(
     let words = item.arguments();
     let rows = item.rows.as_slice();
     match form {
-        Form::Number(number) => Ok(numbers_kind(number, bytes, words)),
+        Form::NumberForm(number) => Ok(numbers_fault(number, bytes, words)),
         Form::Repeats => Ok(repeats_kind(sizes.sites, bytes, words)),
         Form::TypeNames => type_names_kind(alloc, sizes.types, bytes, words),
         Form::Types => Ok(fault_if(has_other_length(sizes.sites, words.len()), LIST_LENGTH)),
@@ -179,7 +179,7 @@ fn rows_fault(
         Form::Coordinates(_) => Ok(coordinates_fault(bytes, rows)),
         Form::Joins => Ok(joins_fault(sizes, bytes, rows)),
         Form::SiteRows => site_rows_fault(alloc, bytes, sizes.sites, rows),
-        Form::Number(_) | Form::Repeats | Form::TypeNames | Form::Types | Form::Default(_) => Ok(
+        Form::NumberForm(_) | Form::Repeats | Form::TypeNames | Form::Types | Form::Default(_) => Ok(
             None,
         ),
     }

@@ -1,6 +1,6 @@
 //! What the words of the lattice file take as values, as data: the definitions and the reader go by this table.
 
-use deck_shape::{Keyword, Number, WordForm};
+use deck_shape::{Keyword, NumberForm, WordForm};
 use kmc_base::MAX_SITES;
 use lattice_cell::DefaultLattice;
 use site_rows::MAX_SITE_TYPES;
@@ -18,7 +18,7 @@ pub enum RowCount {
 #[derive(Clone, Copy, Debug, PartialEq, Eq)]
 pub enum Form {
     /// A whole number.
-    Number(Number),
+    NumberForm(NumberForm),
     /// The repeats of a cell in its two directions.
     Repeats,
     /// A name for each type.
@@ -36,16 +36,16 @@ pub enum Form {
 }
 
 /// A number of sites, of a cell or of a lattice: 1 to 65,536.
-pub const SITE_COUNT: Number = Number::Whole(1, MAX_SITES as u64);
+pub const SITE_COUNT: NumberForm = NumberForm::Whole(1, MAX_SITES as u64);
 
 /// A number of site types, from 1 to 1,000.
-pub const TYPE_COUNT: Number = Number::Whole(1, MAX_SITE_TYPES as u64);
+pub const TYPE_COUNT: NumberForm = NumberForm::Whole(1, MAX_SITE_TYPES as u64);
 
 /// How often a cell is repeated in one direction; the limit on sites bounds it further.
-pub const REPEAT: Number = Number::Whole(1, 18_446_744_073_709_551_615);
+pub const REPEAT: NumberForm = NumberForm::Whole(1, 18_446_744_073_709_551_615);
 
 /// A whole number that is used for nothing.
-pub const ANY_WHOLE: Number = Number::Whole(0, 18_446_744_073_709_551_615);
+pub const ANY_WHOLE: NumberForm = NumberForm::Whole(0, 18_446_744_073_709_551_615);
 
 /// The forms of the words that have a value.
 pub const FORMS: [WordForm<Form>; 13] = [
@@ -67,11 +67,11 @@ pub const FORMS: [WordForm<Form>; 13] = [
     },
     WordForm {
         keyword: Keyword::NCellSites,
-        form: Form::Number(SITE_COUNT),
+        form: Form::NumberForm(SITE_COUNT),
     },
     WordForm {
         keyword: Keyword::NSiteTypes,
-        form: Form::Number(TYPE_COUNT),
+        form: Form::NumberForm(TYPE_COUNT),
     },
     WordForm {
         keyword: Keyword::SiteTypeNames,
@@ -91,11 +91,11 @@ pub const FORMS: [WordForm<Form>; 13] = [
     },
     WordForm {
         keyword: Keyword::NSites,
-        form: Form::Number(SITE_COUNT),
+        form: Form::NumberForm(SITE_COUNT),
     },
     WordForm {
         keyword: Keyword::MaxCoord,
-        form: Form::Number(ANY_WHOLE),
+        form: Form::NumberForm(ANY_WHOLE),
     },
     WordForm {
         keyword: Keyword::LatticeStructure,

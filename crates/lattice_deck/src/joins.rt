@@ -2,7 +2,7 @@ ghost use Rattle.std.specs.Prelude.{◌≡◌, ◌∷◌, ◌==◌, ◌&&◌, �
 ghost use Rattle.std.specs.List.{after_first, before_first, position};
 ghost use Rattle.std.specs.Option.{option_map};
 ghost use Rattle.dec_text.specs.Spans.{bytes_at, line_at};
-ghost use Rattle.kmc_base.specs.declared.ids.TheConstants.{MAX_SITES};
+ghost use Rattle.kmc_base.specs.declared.limits.TheConstants.{MAX_SITES};
 ghost use Rattle.lattice_cell.specs.Cells.{IsInCell, displaced};
 ghost use Rattle.lattice_deck.specs.Joins.{crowds, edge_of, has_bad_end, is_dash, join_kind, join_of, join_on, join_row_kind, joins_itself, joins_of, leads_back, sound_join, toward_of};
 ghost use Rattle.lattice_deck.specs.Sizes.{AreRepeats, IsSizes};

@@ -6,7 +6,7 @@ ghost use Rattle.lattice_deck.specs.Sizes.{IsSizes, gives_too_many, repeats_kind
 use crate::forms::REPEAT;
 use dec_text::Span;
 use deck_shape::kind::TOO_MANY_SITES;
-use deck_shape::{Block, Keyword, fault_if, lesser, numbers_kind, whole_value};
+use deck_shape::{Block, Keyword, fault_if, lesser, numbers_fault, whole_value};
 use kmc_base::MAX_SITES;
 use site_rows::MAX_SITE_TYPES;
 
@@ -70,7 +70,7 @@ pub(crate) fn repeats_kind(sites: Option<u64>, bytes: &[u8], words: &[Span]) -> 
     ensures { result ≡ repeats_kind sites (map (bytes_at bytes.now) words.now) }
 {
     lesser(
-        numbers_kind(REPEAT, bytes, words),
+        numbers_fault(REPEAT, bytes, words),
         fault_if(
             gives_too_many(sites, repeats_of(bytes, words)),
             TOO_MANY_SITES,

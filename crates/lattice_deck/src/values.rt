@@ -2,7 +2,7 @@ ghost use Rattle.std.specs.Prelude.{◌≡◌, ◌*◌, ◌≤◌, ℕ, List, Al
 ghost use Rattle.dec_text.specs.Spans.{bytes_at, line_at, run_at};
 ghost use Rattle.deck_shape.specs.Blocks.{block_at};
 ghost use Rattle.deck_shape.specs.Names.{name_at};
-ghost use Rattle.kmc_base.specs.declared.ids.TheConstants.{MAX_SITES};
+ghost use Rattle.kmc_base.specs.declared.limits.TheConstants.{MAX_SITES};
 ghost use Rattle.lattice_cell.specs.Cells.{IsInCell};
 ghost use Rattle.lattice_cell.specs.Default.{default_lattice};
 ghost use Rattle.lattice_cell.specs.Periodic.{neighbour_lists, periodic_lattice};
@@ -18,8 +18,8 @@ use crate::joins::joins_of;
 use crate::part::LatticePart;
 use crate::sizes::{Sizes, repeats_of, sizes_in};
 use dec_text::{Line, Span};
-use deck_shape::{Block, BlockKind, Keyword, NO_WORD, Name};
-use kmc_base::{Items, OutOfMemory};
+use deck_shape::{Block, BlockForm, Keyword, NO_WORD, Name};
+use kmc_base::{Sequence, OutOfMemory};
 use lattice_cell::{DefaultLattice, Join, expand_default, expand_periodic};
 use lattice_core::{Graph, GraphFault};
 use site_rows::type_of;
@@ -107,8 +107,8 @@ fn default_part(alloc: Global, block: &Block, bytes: &[u8]) -> Result<LatticePar
     let name = b"StTp1".to_vec(alloc)?;
     Ok(LatticePart {
         graph,
-        type_names: Items::new(Vec::from_array(alloc, [name])?),
-        type_words: Items::new(Vec::new(alloc)),
+        type_names: Sequence::new(Vec::from_array(alloc, [name])?),
+        type_words: Sequence::new(Vec::new(alloc)),
     })
 }
 
@@ -184,7 +184,7 @@ fn copies_of(alloc: Global, bytes: &[u8], words: &[Span]) -> Result<Vec<Vec<u8>>
 
 /// The values of a file with a periodic cell.
 fn cell_part(alloc: Global, block: &Block, bytes: &[u8]) -> Result<LatticePart, OutOfMemory>
-    requires { AreFaultless BlockKind.PeriodicCell (block_at bytes.now block.now).items }
+    requires { AreFaultless BlockForm.PeriodicCell (block_at bytes.now block.now).items }
     ensures { IfOk result (λ part. values_at bytes.now part ≡ cell_values (block_at bytes.now block.now).items) }
 {
     let sizes = sizes_in(block, bytes);
@@ -194,8 +194,8 @@ fn cell_part(alloc: Global, block: &Block, bytes: &[u8]) -> Result<LatticePart, 
     let graph = cell_graph(alloc, &sizes, bytes, &names, types, rows)?;
     Ok(LatticePart {
         graph,
-        type_names: Items::new(names),
-        type_words: Items::new(block.names_in(alloc, bytes, Keyword::SiteTypes)?),
+        type_names: Sequence::new(names),
+        type_words: Sequence::new(block.names_in(alloc, bytes, Keyword::SiteTypes)?),
     })
 }
 
@@ -249,7 +249,7 @@ fn explicit_graph(
 
 /// The values of a file with a list of sites.
 fn explicit_part(alloc: Global, block: &Block, bytes: &[u8]) -> Result<LatticePart, OutOfMemory>
-    requires { AreFaultless BlockKind.Explicit (block_at bytes.now block.now).items }
+    requires { AreFaultless BlockForm.Explicit (block_at bytes.now block.now).items }
     ensures { IfOk result (λ part. values_at bytes.now part ≡ explicit_values (block_at bytes.now block.now).items) }
 {
     let sizes = sizes_in(block, bytes);
@@ -258,8 +258,8 @@ fn explicit_part(alloc: Global, block: &Block, bytes: &[u8]) -> Result<LatticePa
     let graph = explicit_graph(alloc, &sizes, bytes, &names, rows)?;
     Ok(LatticePart {
         graph,
-        type_names: Items::new(names),
-        type_words: Items::new(types_on(alloc, rows)?),
+        type_names: Sequence::new(names),
+        type_words: Sequence::new(types_on(alloc, rows)?),
     })
 }
 
@@ -273,12 +273,12 @@ pub(crate) fn values_of(
     ensures { IfOk result (λ part. values_at bytes.now part ≡ values_of block.now.kind (block_at bytes.now block.now).items) }
 {
     match block.kind {
-        BlockKind::DefaultChoice => default_part(alloc, block, bytes),
-        BlockKind::PeriodicCell => cell_part(alloc, block, bytes),
-        BlockKind::Explicit => explicit_part(alloc, block, bytes),
-        BlockKind::Simulation
-        | BlockKind::LatticeFile
-        | BlockKind::NeighboringStructure
-        | BlockKind::LatticeStructure => unreachable!(),
+        BlockForm::DefaultChoice => default_part(alloc, block, bytes),
+        BlockForm::PeriodicCell => cell_part(alloc, block, bytes),
+        BlockForm::Explicit => explicit_part(alloc, block, bytes),
+        BlockForm::Simulation
+        | BlockForm::LatticeFile
+        | BlockForm::NeighboringStructure
+        | BlockForm::LatticeStructure => unreachable!(),
     }
 }

@@ -2,7 +2,8 @@
 use Rattle.std.proofs.Common.{◌≡◌, Bool, true, List, [], ◌∷◌, get_or, map, filter, All, Contains, refl, sym, ap, ◌∙◌, subst, arith, inl, inr, ◌⊎◌}
 use Rattle.std.specs.List.{flat_map}
 use Rattle.std.proofs.lemmas.Bool.{cases_Bool}
-use Rattle.std.proofs.lemmas.List.Elements.{All-contains, Contains-append_left, Contains-append_right, Contains-append_cases, Contains-get_or, filter_passes}
+use Rattle.std.proofs.lemmas.List.Elements.{All-contains, Contains-append_left, Contains-append_right, Contains-append_cases}
+use Rattle.std.proofs.lemmas.List.Elements.{Contains-get_or, filter_passes}
 
 module _ {X : Type 0} where
   pub in-none : (x : X) → Contains [] x → ⊥
@@ -34,7 +35,11 @@ module _ {X : Type 0} where
   from-filter p [] x c = c
   from-filter p (y ∷ ys) x c =
       elim (cases_Bool (p y)) [
-        | inl t ↦ elim (in-cases y (filter p ys) x (rw t at c)) [ inl e ↦ subst (Contains (y ∷ ys)) e (in-first y ys) | inr there ↦ in-rest y ys x (from-filter p ys x there) ]
+        | inl t ↦ elim (in-cases y (filter p ys) x (rw t at c)) [
+          | inl e ↦ subst (Contains (y ∷ ys)) e (in-first y ys)
+          | inr there ↦ in-rest y ys x
+              (from-filter p ys x there)
+        ]
         | inr f ↦ in-rest y ys x (from-filter p ys x (rw f at c))
       ]
 

@@ -1,11 +1,13 @@
 -- The plain form of the mechanism file.
-use Rattle.std.specs.Prelude.{ℕ, zero, suc, ◌+◌, ◌/◌, ◌%◌, ◌==◌, ◌&&◌, Bool, true, not, List, [], ◌∷◌, Option, None, Some, if◌then◌else◌, is_some, length, nat_le, slice_index, codes}
+use Rattle.std.specs.Prelude.{ℕ, zero, suc, ◌+◌, ◌/◌, ◌%◌, ◌==◌, ◌&&◌, Bool, true, not, List, [], ◌∷◌, Option, None, Some, if◌then◌else◌}
+use Rattle.std.specs.Prelude.{is_some, length, nat_le, slice_index, codes}
 use Rattle.std.specs.List.{list_any}
 use Rattle.kmc_base.specs.declared.ids.SpeciesId.{SpeciesId}
 use Rattle.species_book.specs.Book.{Book, place_of, species}
 use Rattle.plain_files.specs.Names.{is_name}
 use Rattle.plain_files.specs.Steps.{Step}
-use Rattle.plain_files.specs.Text.{Word, Line, pieces, first_line, after_words, one_word, number_of, lines_of, same_word, word_after, number_after, words_only, nothing, found_if, ◌>>=◌}
+use Rattle.plain_files.specs.Text.{Word, Line, pieces, first_line, after_words, one_word, number_of, lines_of, same_word, word_after}
+use Rattle.plain_files.specs.Text.{number_after, words_only, nothing, found_if, ◌>>=◌}
 
 -- a number without trailing zeros, which go into the power of ten (at most so many); zero has power 0
 unfoldable pub shortened : ℕ → ℕ → ℕ → ℕ × ℕ

@@ -27,7 +27,8 @@ lines_at text i items = map (item_at text) (drop i items)
 next_line : (text : List ℕ) (items : List Item) (i : ℕ) (item : Item) → i < length items → item ≡ get_or items i item
     → lines_at text i items ≡ item_at text item ∷ lines_at text (i + 1) items
 next_line text items i item here is =
-    ap (map (item_at text)) (drop-cons items i item here ∙ ap (λ it. it ∷ drop (suc i) items) (sym is) ∙ ap (λ j. item ∷ drop j items) (sym (add-one i)))
+    ap (map (item_at text)) (drop-cons items i item here ∙ ap (λ it. it ∷ drop (suc i) items) (sym is)
+    ∙ ap (λ j. item ∷ drop j items) (sym (add-one i)))
 
 pub found : (counts : Counts) (text : List ℕ) (items : List Item) (i kind : ℕ) (item : Item) → i < length items → item ≡ get_or items i item
     → Some kind ≡ item_kind counts (item_at text item)

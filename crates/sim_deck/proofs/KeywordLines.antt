@@ -1,5 +1,6 @@
 -- the line of a keyword, in a file without faults
-use Rattle.std.proofs.Common.{◌≡◌, ◌∙◌, ap, sym, subst, ℕ, ◌&&◌, ◌||◌, Bool, true, false, not, cond, List, [], ◌∷◌, length, Option, None, Some, IfSome, IsSomeAnd, is_some, refl, ⊎_elim}
+use Rattle.std.proofs.Common.{◌≡◌, ◌∙◌, ap, sym, subst, ℕ, ◌&&◌, ◌||◌, Bool, true, false, not, cond, List, [], ◌∷◌, length, Option, None}
+use Rattle.std.proofs.Common.{Some, IfSome, IsSomeAnd, is_some, refl, ⊎_elim}
 use Rattle.std.specs.Cmp.Lexicographic.{same_text}
 use Rattle.std.specs.List.{AllByRecursion, find, list_any}
 use Rattle.std.specs.Option.{option_map, option_map_or}
@@ -16,7 +17,7 @@ use Rattle.deck_shape.specs.WholeBlocks.{IsKnown}
 use Rattle.deck_shape.specs.declared.keyword.Keyword.{Keyword}
 use Rattle.deck_shape.specs.declared.table.Arguments.{Arguments}
 use Rattle.deck_shape.specs.declared.table.Arguments.TheVariants.{Exactly}
-use Rattle.deck_shape.specs.declared.table.BlockKind.TheVariants.{Simulation}
+use Rattle.deck_shape.specs.declared.table.BlockForm.TheVariants.{Simulation}
 use Rattle.deck_shape.specs.declared.table.Need.TheVariants.{Required}
 use Rattle.deck_shape.specs.declared.table.Rule.{Rule}
 use Rattle.deck_shape.proofs.Maps.{IfSome-find}
@@ -56,7 +57,8 @@ pub no_fault_behind : (counts : Counts) (items : List ItemLines) (closing : Opti
     → form_of FORMS (spelling keyword) ≡ Some form → fault_among counts items closing ≡ None
     → IfSome (find (has_keyword keyword) items) (λ item. form_kind counts form (words_of item) ≡ None)
 no_fault_behind counts items closing keyword form known e =
-    at_keyword (λ item. item_kind counts item ≡ None) (λ item. form_kind counts form (words_of item) ≡ None) keyword items (no_faults counts items closing e)
+    at_keyword (λ item. item_kind counts item ≡ None) (λ item. form_kind counts form (words_of item) ≡ None) keyword
+    items (no_faults counts items closing e)
     (λ item none head. sym (ap (λ f. option_map_or (λ form. form_kind counts form (words_of item)) f None) (ap (form_of FORMS) head ∙ known)) ∙ none)
 
 -- how many words stand behind it
@@ -75,7 +77,8 @@ one_behind items keyword one known =
     (λ item known head.
     let rule : option_map (λ rule. rule.arguments) (Some known.rule) ≡ Some (Exactly 1) =
     ap (option_map (λ rule. rule.arguments)) (sym known.has_rule ∙ ap (rule_for Simulation) head) ∙ one in
-    length-map (arguments_of item.line) (λ word. word.bytes) ∙ one_allowed known.rule.arguments (length (arguments_of item.line)) (cc) known.is_allowed)
+    length-map (arguments_of item.line) (λ word. word.bytes)
+    ∙ one_allowed known.rule.arguments (length (arguments_of item.line)) (cc) known.is_allowed)
 
 -- a keyword that has to stand
 
@@ -95,19 +98,26 @@ there P (Some x) is holds = holds
 abbrev pub IsRequired : Keyword → Type 0
 IsRequired keyword = IsSomeAnd (rule_for Simulation (spelling keyword)) (λ rule. (rule.keyword ≡ keyword) × (rule.need ≡ Required))
 
-required_stands : (items : List ItemLines) (keyword : Keyword) (rule : Rule) → rule.keyword ≡ keyword → rule.need ≡ Required → is_missing items rule ≡ false → stands keyword items ≡ true
+required_stands : (items : List ItemLines) (keyword : Keyword) (rule : Rule) → rule.keyword ≡ keyword
+    → rule.need ≡ Required → is_missing items rule ≡ false → stands keyword items ≡ true
 required_stands items keyword rule word need found =
     present (stands keyword items)
-    (ap (λ k. not (stands k items || false)) (sym word) ∙ ap (λ n. is_required n && not (stands rule.keyword items || has_other n items)) (sym need) ∙ found)
+    (ap (λ k. not (stands k items || false)) (sym word)
+    ∙ ap (λ n. is_required n && not (stands rule.keyword items || has_other n items)) (sym need) ∙ found)
 
 -- which stands where its rule is not missing
-stands_by : (items : List ItemLines) (keyword : Keyword) (rule : Option Rule) → IsSomeAnd rule (λ r. (r.keyword ≡ keyword) × (r.need ≡ Required)) → IfSome rule (λ r. is_missing items r ≡ false) → stands keyword items ≡ true
+stands_by : (items : List ItemLines) (keyword : Keyword) (rule : Option Rule)
+    → IsSomeAnd rule (λ r. (r.keyword ≡ keyword) × (r.need ≡ Required))
+    → IfSome rule (λ r. is_missing items r ≡ false) → stands keyword items ≡ true
 stands_by items keyword None required found = absurd required
 stands_by items keyword (Some rule) required found = required_stands items keyword rule required.0 required.1 found
 
-pub has_required : (items : List ItemLines) (keyword : Keyword) → IsRequired keyword → list_any (is_missing items) (rules_of Simulation) ≡ false → is_some (words_behind keyword items) ≡ true
+pub has_required : (items : List ItemLines) (keyword : Keyword) → IsRequired keyword
+    → list_any (is_missing items) (rules_of Simulation) ≡ false → is_some (words_behind keyword items) ≡ true
 has_required items keyword required none =
-    let found = IfSome-find (λ rule. is_missing items rule ≡ false) (λ rule. is_spelled rule.keyword (spelling keyword)) (rules_of Simulation) (none_passes (is_missing items) (rules_of Simulation) none) in
+    let found = IfSome-find (λ rule. is_missing items rule ≡ false)
+    (λ rule. is_spelled rule.keyword (spelling keyword)) (rules_of Simulation)
+    (none_passes (is_missing items) (rules_of Simulation) none) in
     sym (is_some-map words_of (find (has_keyword keyword) items))
     ∙ is_some-find (has_keyword keyword) items
     ∙ stands_by items keyword (rule_for Simulation (spelling keyword)) required found

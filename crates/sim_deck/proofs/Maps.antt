@@ -1,5 +1,6 @@
 -- searches of the values of a list
-use Rattle.std.proofs.Common.{◌≡◌, ◌∙◌, sym, ℕ, ◌+◌, ◌<◌, append_assoc, add-one, drop, get_or, length, ◌||◌, ◌++◌, Option, None, Some, is_some, Bool, true, false, cond, List, [], ◌∷◌, map, refl, ap}
+use Rattle.std.proofs.Common.{◌≡◌, ◌∙◌, sym, ℕ, ◌+◌, ◌<◌, append_assoc, add-one, drop, get_or, length, ◌||◌, ◌++◌, Option, None, Some}
+use Rattle.std.proofs.Common.{is_some, Bool, true, false, cond, List, [], ◌∷◌, map, refl, ap}
 use Rattle.std.proofs.Math.Seq.{drop-cons}
 use Rattle.std.specs.List.{AllByRecursion, find, list_any}
 use Rattle.std.specs.Option.{option_map}
@@ -7,7 +8,9 @@ use Rattle.std.specs.Option.{option_map}
 -- a value that passes a test is found where some value passes it
 pub is_some-find : {X : Type 0} (p : X → Bool) (xs : List X) → is_some (find p xs) ≡ list_any p xs
 is_some-find p [] = refl
-is_some-find p (x ∷ xs) = elim (p x) as (λ b. is_some (cond b (Some x) (find p xs)) ≡ (b || list_any p xs)) [ true ↦ refl | false ↦ is_some-find p xs ]
+is_some-find p (x ∷ xs) =
+    elim (p x) as (λ b. is_some (cond b (Some x) (find p xs)) ≡ (b || list_any p xs))
+    [ true ↦ refl | false ↦ is_some-find p xs ]
 
 pub is_some-map : {X Y : Type 0} (h : X → Y) (r : Option X) → is_some r ≡ is_some (option_map h r)
 is_some-map h None = refl
@@ -23,7 +26,8 @@ pub more_mapped : {W X Y : Type 0} (f : X → Y) (h : W → X) (before after : L
     → after ++ map f (map h (drop (i + 1) words)) ≡ before ++ map f (map h (drop i words))
 more_mapped f h before after words i y d here pushed same =
     let rest = map f (map h (drop (i + 1) words)) in
-    let next : drop i words ≡ get_or words i d ∷ drop (i + 1) words = drop-cons words i d here ∙ ap (λ j. get_or words i d ∷ drop j words) (sym (add-one i)) in
+    let next : drop i words ≡ get_or words i d ∷ drop (i + 1) words =
+    drop-cons words i d here ∙ ap (λ j. get_or words i d ∷ drop j words) (sym (add-one i)) in
     ap (λ values. values ++ rest) pushed
     ∙ append_assoc before (y ∷ []) rest
     ∙ ap (λ z. before ++ z ∷ rest) same

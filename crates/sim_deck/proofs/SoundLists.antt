@@ -1,5 +1,6 @@
 -- the lists of a file without faults
-use Rattle.std.proofs.Common.{◌≡◌, ◌∙◌, ap, sym, subst, ℕ, ◌≤◌, ◌==◌, ◌&&◌, Bool, true, false, not, List, [], ◌∷◌, length, map, Option, None, Some, IfSome, Result, Ok, Err, is_some, is_none, refl, arith, if◌then◌else◌, nat_lt, unwrap_or}
+use Rattle.std.proofs.Common.{◌≡◌, ◌∙◌, ap, sym, subst, ℕ, ◌≤◌, ◌==◌, ◌&&◌, Bool, true, false, not, List, [], ◌∷◌, length, map, Option}
+use Rattle.std.proofs.Common.{None, Some, IfSome, Result, Ok, Err, is_some, is_none, refl, arith, if◌then◌else◌, nat_lt, unwrap_or}
 use Rattle.std.specs.List.{find, list_any}
 use Rattle.std.specs.Option.{option_map, option_map_or}
 use Rattle.std.proofs.lemmas.List.{length-map}
@@ -15,7 +16,8 @@ use Rattle.deck_shape.specs.Keywords.{spelling}
 use Rattle.deck_shape.specs.LineWords.{arguments_of}
 use Rattle.deck_shape.specs.Names.{on_line}
 use Rattle.deck_shape.specs.declared.keyword.Keyword.{Keyword}
-use Rattle.deck_shape.specs.declared.keyword.Keyword.TheVariants.{GasEnergies, GasMolarFracs, GasSpecsNames, NGasSpecies, NSurfSpecies, SurfSpecsDent, SurfSpecsNames}
+use Rattle.deck_shape.specs.declared.keyword.Keyword.TheVariants.{GasEnergies, GasMolarFracs, GasSpecsNames, NGasSpecies, NSurfSpecies}
+use Rattle.deck_shape.specs.declared.keyword.Keyword.TheVariants.{SurfSpecsDent, SurfSpecsNames}
 use Rattle.deck_shape.specs.declared.kind.TheConstants.{BAD_NAME, LIST_LENGTH, REPEATED_NAME}
 use Rattle.sim_deck.proofs.KeywordLines.{no_fault_behind}
 use Rattle.sim_deck.proofs.Maps.{is_some-find}
@@ -23,14 +25,14 @@ use Rattle.sim_deck.proofs.NoFaults.{holds_not, line_kind, neither, neither_hold
 use Rattle.sim_deck.specs.Faults.{closing_kind, count_in, counts_in, fault_among, first_fault, form_kind, is_absent, sound_count}
 use Rattle.deck_shape.specs.Lists.{has_other_length, names_repeat}
 use Rattle.sim_deck.specs.Lists.{is_bad_name, Counts, count_of, has_members}
-use Rattle.deck_shape.specs.Numbers.{is_whole_within, numbers_kind, whole_value}
+use Rattle.deck_shape.specs.Numbers.{is_whole_within, numbers_fault, whole_value}
 use Rattle.sim_deck.specs.Soundness.{AreNames}
 use Rattle.sim_deck.specs.Values.{SimValues, dentates_of, energy_of, fraction_of, values_of}
 use Rattle.sim_deck.specs.declared.forms.Count.{Count}
 use Rattle.sim_deck.specs.declared.forms.Count.TheVariants.{Gas, Surface}
 use Rattle.sim_deck.specs.declared.forms.Form.{Form}
-use Rattle.deck_shape.specs.declared.number.Number.{Number as Sort}
-use Rattle.sim_deck.specs.declared.forms.Form.TheVariants.{Names, Number, Numbers}
+use Rattle.deck_shape.specs.declared.number.NumberForm.{NumberForm as Sort}
+use Rattle.sim_deck.specs.declared.forms.Form.TheVariants.{Names, NumberForm, Numbers}
 use Rattle.sim_deck.specs.declared.forms.TheConstants.{DENTATES, ENERGY, FORMS, FRACTION, SPECIES_COUNT}
 
 -- the numbers of species
@@ -53,15 +55,15 @@ if_none (Some k) a b e = absurd cc
 abbrev IsStated : Option ℕ → Type 0
 IsStated count = (n : ℕ) × (count ≡ Some n) × (n ≤ 64)
 
-sound_words : (words : List (List ℕ)) → numbers_kind SPECIES_COUNT words ≡ None → IsStated (sound_count words)
+sound_words : (words : List (List ℕ)) → numbers_fault SPECIES_COUNT words ≡ None → IsStated (sound_count words)
 sound_words [] e = (0, refl, omega arith)
 sound_words (word ∷ words) e = (
   whole_value 0 64 0 (whole_number word),
-  if_none (numbers_kind SPECIES_COUNT (word ∷ words)) (Some (whole_value 0 64 0 (whole_number word))) None e,
+  if_none (numbers_fault SPECIES_COUNT (word ∷ words)) (Some (whole_value 0 64 0 (whole_number word))) None e,
   few_species (whole_number word),
 )
 
-sound_item : (r : Option ItemLines) → IfSome r (λ item. numbers_kind SPECIES_COUNT (words_of item) ≡ None)
+sound_item : (r : Option ItemLines) → IfSome r (λ item. numbers_fault SPECIES_COUNT (words_of item) ≡ None)
     → IsStated (option_map_or sound_count (option_map words_of r) (Some 0))
 sound_item None none = (0, refl, omega arith)
 sound_item (Some item) none = sound_words (words_of item) none
@@ -97,12 +99,14 @@ IsKindless counts form item = form_kind counts form (words_of item) ≡ None
 abbrev IsLong : ℕ → ItemLines → Type 0
 IsLong count item = has_other_length (Some count) (length (words_of item)) ≡ false
 
-long_names : (counts : Counts) (count : Count) (n : ℕ) → count_of counts count ≡ Some n → (item : ItemLines) → IsKindless counts (Names count) item → IsLong n item
+long_names : (counts : Counts) (count : Count) (n : ℕ) → count_of counts count ≡ Some n → (item : ItemLines)
+    → IsKindless counts (Names count) item → IsLong n item
 long_names counts count n stated item none =
     ap (λ c. has_other_length c (length (words_of item))) (sym stated)
     ∙ holds_not (has_other_length (count_of counts count) (length (words_of item))) LIST_LENGTH (neither _ _ none).0
 
-long_numbers : (counts : Counts) (number : Sort) (count : Count) (n : ℕ) → count_of counts count ≡ Some n → (item : ItemLines) → IsKindless counts (Numbers number count) item → IsLong n item
+long_numbers : (counts : Counts) (number : Sort) (count : Count) (n : ℕ) → count_of counts count ≡ Some n
+    → (item : ItemLines) → IsKindless counts (Numbers number count) item → IsLong n item
 long_numbers counts number count n stated item none =
     ap (λ c. has_other_length c (length (words_of item))) (sym stated)
     ∙ holds_not (has_other_length (count_of counts count) (length (words_of item))) LIST_LENGTH (neither _ _ none).1
@@ -182,14 +186,19 @@ lists_of items line none =
     let closing = line_kind line (closing_kind counts items) in
     let there = are_there counts items (none_mapped (closing_kind counts items) line (no_closing counts items closing none)) in
     let gas : IsStated (count_of counts Gas) =
-    sound_item (find (has_keyword NGasSpecies) items) (no_fault_behind counts items closing NGasSpecies (Number SPECIES_COUNT) refl none) in
+    sound_item (find (has_keyword NGasSpecies) items) (no_fault_behind counts items closing NGasSpecies (NumberForm SPECIES_COUNT) refl none) in
     let surface : IsStated (count_of counts Surface) =
-    sound_item (find (has_keyword NSurfSpecies) items) (no_fault_behind counts items closing NSurfSpecies (Number SPECIES_COUNT) refl none) in
-    let gas_names = counted counts items closing GasSpecsNames (Names Gas) Gas gas.0 refl none gas.1 there.gas_names (long_names counts Gas gas.0 gas.1) in
-    let energies = counted counts items closing GasEnergies (Numbers ENERGY Gas) Gas gas.0 refl none gas.1 there.energies (long_numbers counts ENERGY Gas gas.0 gas.1) in
-    let fractions = counted counts items closing GasMolarFracs (Numbers FRACTION Gas) Gas gas.0 refl none gas.1 there.fractions (long_numbers counts FRACTION Gas gas.0 gas.1) in
-    let surface_names = counted counts items closing SurfSpecsNames (Names Surface) Surface surface.0 refl none surface.1 there.surface_names (long_names counts Surface surface.0 surface.1) in
-    let dentates = counted counts items closing SurfSpecsDent (Numbers DENTATES Surface) Surface surface.0 refl none surface.1 there.dentates (long_numbers counts DENTATES Surface surface.0 surface.1) in
+    sound_item (find (has_keyword NSurfSpecies) items) (no_fault_behind counts items closing NSurfSpecies (NumberForm SPECIES_COUNT) refl none) in
+    let gas_names = counted counts items closing GasSpecsNames (Names Gas) Gas gas.0 refl none gas.1 there.gas_names
+    (long_names counts Gas gas.0 gas.1) in
+    let energies = counted counts items closing GasEnergies (Numbers ENERGY Gas) Gas gas.0 refl none gas.1
+    there.energies (long_numbers counts ENERGY Gas gas.0 gas.1) in
+    let fractions = counted counts items closing GasMolarFracs (Numbers FRACTION Gas) Gas gas.0 refl none gas.1
+    there.fractions (long_numbers counts FRACTION Gas gas.0 gas.1) in
+    let surface_names = counted counts items closing SurfSpecsNames (Names Surface) Surface surface.0 refl none
+    surface.1 there.surface_names (long_names counts Surface surface.0 surface.1) in
+    let dentates = counted counts items closing SurfSpecsDent (Numbers DENTATES Surface) Surface surface.0 refl none
+    surface.1 there.dentates (long_numbers counts DENTATES Surface surface.0 surface.1) in
     record {
       stated_gas = gas.1 ∙ ap (λ n. Some n) (sym (names_count (find (has_keyword GasSpecsNames) items) ∙ gas_names));
       stated_surface = surface.1 ∙ ap (λ n. Some n) (sym (names_count (find (has_keyword SurfSpecsNames) items) ∙ surface_names));
@@ -197,11 +206,14 @@ lists_of items line none =
           named (find (has_keyword GasSpecsNames) items) gas.0 gas_names gas.2
           (differ_in counts Gas (find (has_keyword GasSpecsNames) items) (no_fault_behind counts items closing GasSpecsNames (Names Gas) refl none));
       one_energy_each = one_each energy_of (find (has_keyword GasEnergies) items) (find (has_keyword GasSpecsNames) items) gas.0 energies gas_names;
-      one_fraction_each = one_each fraction_of (find (has_keyword GasMolarFracs) items) (find (has_keyword GasSpecsNames) items) gas.0 fractions gas_names;
+      one_fraction_each = one_each fraction_of (find (has_keyword GasMolarFracs) items)
+          (find (has_keyword GasSpecsNames) items) gas.0 fractions gas_names;
       surface =
           named (find (has_keyword SurfSpecsNames) items) surface.0 surface_names surface.2
-          (differ_in counts Surface (find (has_keyword SurfSpecsNames) items) (no_fault_behind counts items closing SurfSpecsNames (Names Surface) refl none));
-      one_number_each = one_each dentates_of (find (has_keyword SurfSpecsDent) items) (find (has_keyword SurfSpecsNames) items) surface.0 dentates surface_names;
+          (differ_in counts Surface (find (has_keyword SurfSpecsNames) items)
+          (no_fault_behind counts items closing SurfSpecsNames (Names Surface) refl none));
+      one_number_each = one_each dentates_of (find (has_keyword SurfSpecsDent) items)
+          (find (has_keyword SurfSpecsNames) items) surface.0 dentates surface_names;
     }
 
 pub sound_lists : (block : BlockLines) → first_fault block ≡ None → AreLists block.items (values_of block.items)

@@ -14,10 +14,10 @@ use Rattle.deck_shape.specs.declared.keyword.Keyword.TheVariants.{NGasSpecies, N
 use Rattle.deck_shape.specs.declared.kind.TheConstants.{LIST_LENGTH}
 use Rattle.deck_shape.specs.Lists.{fault_if, has_other_length}
 use Rattle.sim_deck.specs.Lists.{Counts, count_of, has_members, names_kind}
-use Rattle.deck_shape.specs.Numbers.{lesser, numbers_kind, whole_value}
+use Rattle.deck_shape.specs.Numbers.{lesser, numbers_fault, whole_value}
 use Rattle.sim_deck.specs.Samplings.{sampling_kind}
 use Rattle.sim_deck.specs.declared.forms.Form.{Form}
-use Rattle.sim_deck.specs.declared.forms.Form.TheVariants.{Number, NumberOrInfinity, Numbers, Names, Sampling, Free}
+use Rattle.sim_deck.specs.declared.forms.Form.TheVariants.{NumberForm, NumberOrInfinity, Numbers, Names, Sampling, Free}
 use Rattle.sim_deck.specs.declared.forms.NeededList.{NeededList}
 use Rattle.sim_deck.specs.declared.forms.TheConstants.{FORMS, MAX_SPECIES, NEEDED_LISTS, SPECIES_COUNT}
 
@@ -29,10 +29,10 @@ is_infinity (word ∷ next ∷ words) = false
 
 -- the fault of the words behind a keyword of this form: the least kind that holds
 abbrev pub form_kind : Counts → Form → List (List ℕ) → Option ℕ
-form_kind counts (Number number) words = numbers_kind number words
-form_kind counts (NumberOrInfinity number) words = if is_infinity words then None else numbers_kind number words
+form_kind counts (NumberForm number) words = numbers_fault number words
+form_kind counts (NumberOrInfinity number) words = if is_infinity words then None else numbers_fault number words
 form_kind counts (Numbers number count) words =
-    lesser (numbers_kind number words) (fault_if (has_other_length (count_of counts count) (length words)) LIST_LENGTH)
+    lesser (numbers_fault number words) (fault_if (has_other_length (count_of counts count) (length words)) LIST_LENGTH)
 form_kind counts (Names count) words = names_kind (count_of counts count) words
 form_kind counts Sampling words = sampling_kind words
 form_kind counts Free words = None
@@ -53,7 +53,7 @@ closing_kind counts items = fault_if (list_any (is_absent counts items) NEEDED_L
 abbrev pub sound_count : List (List ℕ) → Option ℕ
 sound_count [] = Some 0
 sound_count (word ∷ words) =
-    if is_none (numbers_kind SPECIES_COUNT (word ∷ words)) then Some (whole_value 0 MAX_SPECIES 0 (whole_number word)) else None
+    if is_none (numbers_fault SPECIES_COUNT (word ∷ words)) then Some (whole_value 0 MAX_SPECIES 0 (whole_number word)) else None
 
 -- a number of species that has no fault: that of the line which states it, or 0
 abbrev pub count_in : Keyword → List ItemLines → Option ℕ

@@ -4,8 +4,8 @@ use Rattle.dec_text.specs.Decimals.{decimal_of}
 use Rattle.dec_text.specs.Wholes.{whole_number}
 use Rattle.deck_shape.specs.Tables.{same_word}
 use Rattle.deck_shape.specs.declared.kind.TheConstants.{BAD_CHOICE}
-use Rattle.deck_shape.specs.Numbers.{decimal_value, number_kind, whole_value}
-use Rattle.deck_shape.specs.declared.number.Number.TheVariants.{Whole, Scaled}
+use Rattle.deck_shape.specs.Numbers.{decimal_value, number_fault, whole_value}
+use Rattle.deck_shape.specs.declared.number.NumberForm.TheVariants.{Whole, Scaled}
 use Rattle.sim_deck.specs.declared.forms.TheConstants.{MAX_EVENTS, MAX_TIME}
 use Rattle.sim_deck.specs.declared.part.Sampling.{Sampling}
 use Rattle.sim_deck.specs.declared.part.Sampling.TheVariants.{Off, Event, Time}
@@ -21,8 +21,8 @@ sampling_kind (a ∷ []) = if same_word (codes "off") a then None else Some BAD_
 sampling_kind (a ∷ b ∷ []) = if is_on (codes "event") a b then None else Some BAD_CHOICE
 sampling_kind (a ∷ b ∷ c ∷ []) =
     if is_on (codes "event") a b
-    then number_kind (Whole 1 MAX_EVENTS) c
-    else (if is_on (codes "time") a b then number_kind (Scaled 18 (pos 1) MAX_TIME) c else Some BAD_CHOICE)
+    then number_fault (Whole 1 MAX_EVENTS) c
+    else (if is_on (codes "time") a b then number_fault (Scaled 18 (pos 1) MAX_TIME) c else Some BAD_CHOICE)
 sampling_kind (a ∷ b ∷ c ∷ d ∷ words) = Some BAD_CHOICE
 
 -- the period N in events

@@ -8,7 +8,9 @@ use Rattle.dec_text.specs.Wholes.{whole_number}
 use Rattle.deck_shape.specs.Blocks.{ItemLines}
 use Rattle.deck_shape.specs.Items.{list_in, words_behind}
 use Rattle.deck_shape.specs.Tables.{same_word}
-use Rattle.deck_shape.specs.declared.keyword.Keyword.TheVariants.{GasEnergies, GasMolarFracs, GasSpecsNames, MaxSteps, MaxTime, NGasSpecies, NSurfSpecies, Pressure, ProcessStatistics, RandomSeed, Snapshots, SpeciesNumbers, SurfSpecsDent, SurfSpecsNames, Temperature}
+use Rattle.deck_shape.specs.declared.keyword.Keyword.TheVariants.{GasEnergies, GasMolarFracs, GasSpecsNames, MaxSteps, MaxTime}
+use Rattle.deck_shape.specs.declared.keyword.Keyword.TheVariants.{NGasSpecies, NSurfSpecies, Pressure, ProcessStatistics, RandomSeed}
+use Rattle.deck_shape.specs.declared.keyword.Keyword.TheVariants.{Snapshots, SpeciesNumbers, SurfSpecsDent, SurfSpecsNames, Temperature}
 use Rattle.sim_deck.specs.Values.{SimValues}
 use Rattle.sim_deck.specs.declared.forms.TheConstants.{MAX_EVENTS}
 use Rattle.sim_deck.specs.declared.part.Sampling.{Sampling}
@@ -66,7 +68,8 @@ pub record StatesValues (items : List ItemLines) (values : SimValues) : Type 0 w
   pub surface_names : map (λ name. name.word.bytes) values.surface ≡ list_in SurfSpecsNames items
   pub dentates : map whole_written (list_in SurfSpecsDent items) ≡ map (λ n. Some n) values.dentates
   pub max_steps : MatchOption (words_behind MaxSteps items) (values.plan.max_steps ≡ MAX_EVENTS) (Writes events_written values.plan.max_steps)
-  pub max_time : MatchOption (words_behind MaxTime items) (values.plan.max_time ≡ None) (Writes time_written (option_map (λ t. pos t) values.plan.max_time))
+  pub max_time : MatchOption (words_behind MaxTime items) (values.plan.max_time ≡ None)
+      (Writes time_written (option_map (λ t. pos t) values.plan.max_time))
   pub history : MatchOption (words_behind Snapshots items) (values.plan.history ≡ Off) (WritesSampling values.plan.history)
   pub procstat : MatchOption (words_behind ProcessStatistics items) (values.plan.procstat ≡ Off) (WritesSampling values.plan.procstat)
   pub specnum : MatchOption (words_behind SpeciesNumbers items) (values.plan.specnum ≡ Off) (WritesSampling values.plan.specnum)

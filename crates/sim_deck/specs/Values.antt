@@ -7,7 +7,9 @@ use Rattle.deck_shape.specs.Blocks.{BlockLines, ItemLines}
 use Rattle.deck_shape.specs.Items.{list_in, names_in, words_behind}
 use Rattle.deck_shape.specs.Names.{NameWord, name_at}
 use Rattle.deck_shape.specs.declared.keyword.Keyword.{Keyword}
-use Rattle.deck_shape.specs.declared.keyword.Keyword.TheVariants.{RandomSeed, Temperature, Pressure, GasSpecsNames, GasEnergies, GasMolarFracs, SurfSpecsNames, SurfSpecsDent, Snapshots, ProcessStatistics, SpeciesNumbers, MaxSteps, MaxTime}
+use Rattle.deck_shape.specs.declared.keyword.Keyword.TheVariants.{RandomSeed, Temperature, Pressure, GasSpecsNames, GasEnergies}
+use Rattle.deck_shape.specs.declared.keyword.Keyword.TheVariants.{GasMolarFracs, SurfSpecsNames, SurfSpecsDent, Snapshots}
+use Rattle.deck_shape.specs.declared.keyword.Keyword.TheVariants.{ProcessStatistics, SpeciesNumbers, MaxSteps, MaxTime}
 use Rattle.sim_deck.specs.Faults.{first_fault, is_infinity}
 use Rattle.deck_shape.specs.Numbers.{decimal_value, up_to_value, whole_value, zero}
 use Rattle.sim_deck.specs.Samplings.{sampling_of}
@@ -54,7 +56,9 @@ whole_in keyword least most default items =
 -- the temperature in mK
 abbrev pub temperature_in : List ItemLines → ℕ
 temperature_in items =
-    unsigned_abs (option_map_or (λ words. decimal_value 3 (pos 1) (pos 10000000) (pos 1) (decimal_of (first_word words))) (words_behind Temperature items) (pos 1))
+    unsigned_abs (option_map_or
+    (λ words. decimal_value 3 (pos 1) (pos 10000000) (pos 1) (decimal_of (first_word words)))
+    (words_behind Temperature items) (pos 1))
 
 -- the pressure in bar
 abbrev pub pressure_in : List ItemLines → Scientific

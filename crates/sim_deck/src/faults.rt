@@ -5,7 +5,7 @@ ghost use Rattle.dec_text.specs.Spans.{bytes_at};
 ghost use Rattle.deck_shape.specs.Blocks.{block_at, item_at, stands};
 ghost use Rattle.deck_shape.specs.Forms.{form_of};
 ghost use Rattle.deck_shape.specs.Lists.{fault_if, has_other_length};
-ghost use Rattle.deck_shape.specs.Numbers.{IsNumber, lesser, numbers_kind};
+ghost use Rattle.deck_shape.specs.Numbers.{IsNumber, lesser, numbers_fault};
 ghost use Rattle.sim_deck.specs.declared.forms.TheConstants.{FORMS as ENTRIES, NEEDED_LISTS as LISTS};
 ghost use Rattle.sim_deck.specs.Faults.{closing_kind, count_in, counts_in, fault_among, first_fault, form_kind, is_absent, is_infinity, item_kind, sound_count};
 ghost use Rattle.sim_deck.specs.Views.{counts_at};
@@ -17,7 +17,7 @@ use crate::samplings::sampling_kind;
 use dec_text::Span;
 use deck_shape::kind::LIST_LENGTH;
 use deck_shape::{
-    Block, Item, Keyword, Number, fault_if, has_other_length, lesser, numbers_kind, whole_value,
+    Block, Item, Keyword, NumberForm, fault_if, has_other_length, lesser, numbers_fault, whole_value,
 };
 use kmc_base::OutOfMemory;
 use std::alloc::Global;
@@ -41,12 +41,12 @@ fn form_of(word: &[u8]) -> Option<Form>
 }
 
 /// The fault of a list of numbers.
-fn list_kind(number: Number, count: Option<u64>, bytes: &[u8], words: &[Span]) -> Option<u8>
+fn list_kind(number: NumberForm, count: Option<u64>, bytes: &[u8], words: &[Span]) -> Option<u8>
     requires { IsNumber number }
-    ensures { result ≡ lesser (numbers_kind number (map (bytes_at bytes.now) words.now)) (fault_if (has_other_length count (length words.now)) LIST_LENGTH) }
+    ensures { result ≡ lesser (numbers_fault number (map (bytes_at bytes.now) words.now)) (fault_if (has_other_length count (length words.now)) LIST_LENGTH) }
 {
     lesser(
-        numbers_kind(number, bytes, words),
+        numbers_fault(number, bytes, words),
         fault_if(has_other_length(count, words.len()), LIST_LENGTH),
     )
 }
@@ -63,9 +63,9 @@ fn form_kind(
     ensures { IfOk result (λ kind. kind ≡ form_kind (counts_at counts.now) form (map (bytes_at bytes.now) words.now)) }
 {
     match form {
-        Form::Number(number) => Ok(numbers_kind(number, bytes, words)),
+        Form::NumberForm(number) => Ok(numbers_fault(number, bytes, words)),
         Form::NumberOrInfinity(_) if is_infinity(bytes, words) => Ok(None),
-        Form::NumberOrInfinity(number) => Ok(numbers_kind(number, bytes, words)),
+        Form::NumberOrInfinity(number) => Ok(numbers_fault(number, bytes, words)),
         Form::Numbers(number, count) => Ok(list_kind(number, counts.of(count), bytes, words)),
         Form::Names(count) => names_kind(alloc, counts.of(count), bytes, words),
         Form::Sampling => Ok(sampling_kind(bytes, words)),
@@ -125,7 +125,7 @@ fn sound_count(bytes: &[u8], words: &[Span]) -> Option<u64>
     let [word, ..] = words else {
         return Some(0);
     };
-    match numbers_kind(SPECIES_COUNT, bytes, words) {
+    match numbers_fault(SPECIES_COUNT, bytes, words) {
         None => Some(whole_value(0, MAX_SPECIES, 0, word.bytes(bytes))),
         Some(_) => None,
     }

@@ -1,6 +1,6 @@
 //! What the words of the simulation file take as values, as data: the definitions and the reader go by these tables.
 
-use deck_shape::{Keyword, Number, WordForm};
+use deck_shape::{Keyword, NumberForm, WordForm};
 
 /// Which number of species a list has members for.
 #[derive(Clone, Copy, Debug, PartialEq, Eq)]
@@ -15,11 +15,11 @@ pub enum Count {
 #[derive(Clone, Copy, Debug, PartialEq, Eq)]
 pub enum Form {
     /// A number.
-    Number(Number),
+    NumberForm(NumberForm),
     /// A number, or `infinity`.
-    NumberOrInfinity(Number),
+    NumberOrInfinity(NumberForm),
     /// A number for each species.
-    Numbers(Number, Count),
+    Numbers(NumberForm, Count),
     /// A name for each species.
     Names(Count),
     /// When an output is sampled.
@@ -47,55 +47,55 @@ pub const MAX_TIME: i128 = 1_000_000_000_000_000_000_000_000_000_000;
 pub const MAX_SPECIES: u64 = 64;
 
 /// A number of species.
-pub const SPECIES_COUNT: Number = Number::Whole(0, MAX_SPECIES);
+pub const SPECIES_COUNT: NumberForm = NumberForm::Whole(0, MAX_SPECIES);
 
 /// A temperature in K, kept in mK: from 1 mK to 10,000 K.
-pub const TEMPERATURE: Number = Number::Scaled(3, 1, 10_000_000);
+pub const TEMPERATURE: NumberForm = NumberForm::Scaled(3, 1, 10_000_000);
 
 /// A pressure in bar, from 0 to 10^9.
-pub const PRESSURE: Number = Number::UpTo(9);
+pub const PRESSURE: NumberForm = NumberForm::UpTo(9);
 
 /// An energy in eV, kept in neV (10^-9 eV): of a magnitude of at most 1,000 eV.
-pub const ENERGY: Number = Number::Scaled(9, -1_000_000_000_000, 1_000_000_000_000);
+pub const ENERGY: NumberForm = NumberForm::Scaled(9, -1_000_000_000_000, 1_000_000_000_000);
 
 /// A molar fraction, from 0 to 1.
-pub const FRACTION: Number = Number::UpTo(0);
+pub const FRACTION: NumberForm = NumberForm::UpTo(0);
 
 /// A number of dentates, from 1 to 8.
-pub const DENTATES: Number = Number::Whole(1, 8);
+pub const DENTATES: NumberForm = NumberForm::Whole(1, 8);
 
 /// A random seed, or a wall time: any whole number below 2^64.
-pub const ANY_WHOLE: Number = Number::Whole(0, 18_446_744_073_709_551_615);
+pub const ANY_WHOLE: NumberForm = NumberForm::Whole(0, 18_446_744_073_709_551_615);
 
 /// The argument of `max_steps`.
-pub const EVENT_LIMIT: Number = Number::Whole(0, MAX_EVENTS);
+pub const EVENT_LIMIT: NumberForm = NumberForm::Whole(0, MAX_EVENTS);
 
 /// The argument of `max_time` in s, kept in as (10^-18 s).
-pub const TIME_LIMIT: Number = Number::Scaled(18, 0, MAX_TIME);
+pub const TIME_LIMIT: NumberForm = NumberForm::Scaled(18, 0, MAX_TIME);
 
 /// The period of a sampling in events.
-pub const EVENT_PERIOD: Number = Number::Whole(1, MAX_EVENTS);
+pub const EVENT_PERIOD: NumberForm = NumberForm::Whole(1, MAX_EVENTS);
 
 /// The period of a sampling in s, kept in as: at least 1 as.
-pub const TIME_PERIOD: Number = Number::Scaled(18, 1, MAX_TIME);
+pub const TIME_PERIOD: NumberForm = NumberForm::Scaled(18, 1, MAX_TIME);
 
 /// The forms of the words that have a value.
 pub const FORMS: [WordForm<Form>; 19] = [
     WordForm {
         keyword: Keyword::RandomSeed,
-        form: Form::Number(ANY_WHOLE),
+        form: Form::NumberForm(ANY_WHOLE),
     },
     WordForm {
         keyword: Keyword::Temperature,
-        form: Form::Number(TEMPERATURE),
+        form: Form::NumberForm(TEMPERATURE),
     },
     WordForm {
         keyword: Keyword::Pressure,
-        form: Form::Number(PRESSURE),
+        form: Form::NumberForm(PRESSURE),
     },
     WordForm {
         keyword: Keyword::NGasSpecies,
-        form: Form::Number(SPECIES_COUNT),
+        form: Form::NumberForm(SPECIES_COUNT),
     },
     WordForm {
         keyword: Keyword::GasSpecsNames,
@@ -107,7 +107,7 @@ pub const FORMS: [WordForm<Form>; 19] = [
     },
     WordForm {
         keyword: Keyword::GasMolecWeights,
-        form: Form::Numbers(Number::Unused, Count::Gas),
+        form: Form::Numbers(NumberForm::Unused, Count::Gas),
     },
     WordForm {
         keyword: Keyword::GasMolarFracs,
@@ -115,7 +115,7 @@ pub const FORMS: [WordForm<Form>; 19] = [
     },
     WordForm {
         keyword: Keyword::NSurfSpecies,
-        form: Form::Number(SPECIES_COUNT),
+        form: Form::NumberForm(SPECIES_COUNT),
     },
     WordForm {
         keyword: Keyword::SurfSpecsNames,

@@ -1,6 +1,6 @@
 use dec_text::Decimal;
 use deck_shape::Name;
-use kmc_base::Items;
+use kmc_base::Sequence;
 
 /// When an output is sampled.
 #[derive(Clone, Copy, Debug, PartialEq, Eq)]
@@ -40,13 +40,13 @@ pub struct SimPart {
     /// In bar, from 0 to 10^9.
     pub pressure: Decimal,
     /// The names of the gas species, at most 64.
-    pub gas: Items<Name>,
+    pub gas: Sequence<Name>,
     /// The energy of each gas species in neV (10^-9 eV), of a magnitude of at most 10^12.
-    pub gas_energies: Items<i64>,
+    pub gas_energies: Sequence<i64>,
     /// The molar fraction of each gas species, from 0 to 1.
-    pub gas_fractions: Items<Decimal>,
+    pub gas_fractions: Sequence<Decimal>,
     /// The names of the surface species, at most 64.
-    pub surface: Items<Name>,
+    pub surface: Sequence<Name>,
     /// How many dentates each surface species has, from 1 to 8.
-    pub dentates: Items<u8>,
+    pub dentates: Sequence<u8>,
 }

@@ -7,7 +7,7 @@ use crate::forms::{EVENT_PERIOD, MAX_EVENTS, MAX_TIME, TIME_PERIOD};
 use crate::part::Sampling;
 use dec_text::Span;
 use deck_shape::kind::BAD_CHOICE;
-use deck_shape::{decimal_value, number_kind, whole_value};
+use deck_shape::{decimal_value, number_fault, whole_value};
 
 /// Two words are `on` and this one.
 fn is_on(bytes: &[u8], what: &[u8], first: Span, second: Span) -> bool
@@ -43,9 +43,9 @@ fn period_kind(bytes: &[u8], first: Span, second: Span, period: Span) -> Option<
     ensures { result ≡ sampling_kind (map (bytes_at bytes.now) (first ∷ second ∷ period ∷ [])) }
 {
     if is_on(bytes, b"event", first, second) {
-        number_kind(EVENT_PERIOD, period.bytes(bytes))
+        number_fault(EVENT_PERIOD, period.bytes(bytes))
     } else if is_on(bytes, b"time", first, second) {
-        number_kind(TIME_PERIOD, period.bytes(bytes))
+        number_fault(TIME_PERIOD, period.bytes(bytes))
     } else {
         Some(BAD_CHOICE)
     }

@@ -12,7 +12,7 @@ use crate::part::{Plan, Sampling, SimPart};
 use crate::samplings::sampling_of;
 use dec_text::{Decimal, Span};
 use deck_shape::{Block, Keyword, ZERO, decimal_value, up_to_value, whole_value};
-use kmc_base::{Items, OutOfMemory};
+use kmc_base::{Sequence, OutOfMemory};
 use std::alloc::Global;
 
 /// The first word behind a keyword; an empty one where there is none.
@@ -178,10 +178,10 @@ pub(crate) fn values_of(alloc: Global, block: &Block, bytes: &[u8]) -> Result<Si
         plan: plan_of(block, bytes),
         temperature: temperature_in(block, bytes),
         pressure: pressure_in(block, bytes),
-        gas: Items::new(gas),
-        gas_energies: Items::new(gas_energies),
-        gas_fractions: Items::new(gas_fractions),
-        surface: Items::new(surface),
-        dentates: Items::new(dentates),
+        gas: Sequence::new(gas),
+        gas_energies: Sequence::new(gas_energies),
+        gas_fractions: Sequence::new(gas_fractions),
+        surface: Sequence::new(surface),
+        dentates: Sequence::new(dentates),
     })
 }

@@ -1,5 +1,7 @@
 -- rows of sites that have no fault
-use Rattle.std.proofs.Common.{◌≡◌, ◌∙◌, sym, ap, subst, ℕ, suc, zero, ◌++◌, ◌<◌, ◌||◌, Bool, true, false, cond, All, List, [], ◌∷◌, Option, None, Some, eqb, get_or, is_some, length, map, nat_eq, nat_lt, take, inl, inr, refl, arith, append_assoc}
+use Rattle.std.proofs.Common.{◌≡◌, ◌∙◌, sym, ap, subst, ℕ, suc, zero, ◌++◌, ◌<◌, ◌||◌, Bool, true, false, cond, All, List, [], ◌∷◌}
+use Rattle.std.proofs.Common.{Option, None, Some, eqb, get_or, is_some, length, map, nat_eq, nat_lt, take, inl, inr, refl, arith}
+use Rattle.std.proofs.Common.{append_assoc}
 use Rattle.std.specs.List.{AllByRecursion, IsDistinct, list_any}
 use Rattle.std.specs.Option.{option_map_or}
 use Rattle.std.proofs.lemmas.Bool.{both_ways, cases_Bool}
@@ -27,7 +29,8 @@ pub record SoundRow (sites : Option ℕ) (all : List SiteRow) (row : SiteRow) : 
   pub two_sided : list_any (is_one_sided sites all row.site) row.neighbours ≡ false
 
 -- the first of some faults does not hold, nor does another
-passed : (b : Bool) (k : RowFault) (rest : List (Bool × RowFault)) → first_that_holds ((b, k) ∷ rest) ≡ None → (b ≡ false) × (first_that_holds rest ≡ None)
+passed : (b : Bool) (k : RowFault) (rest : List (Bool × RowFault)) → first_that_holds ((b, k) ∷ rest) ≡ None
+    → (b ≡ false) × (first_that_holds rest ≡ None)
 passed true k rest none = absurd (cc)
 passed false k rest none = (refl, none)
 
@@ -61,11 +64,13 @@ pub line_parts : (sites : Option ℕ) (above all : List SiteRow) (words : List (
     → (row : SiteRow) × (site_row words ≡ Some row) × (row_for row.site above ≡ None) × SoundRow sites all row
 line_parts sites above all words none = found_parts sites above all (site_row words) none
 
-fault_parts : (line : ℕ) (fault : Option RowFault) (rest : Option (ℕ × RowFault)) → option_map_or (λ f. Some (line, f)) fault rest ≡ None → (fault ≡ None) × (rest ≡ None)
+fault_parts : (line : ℕ) (fault : Option RowFault) (rest : Option (ℕ × RowFault))
+    → option_map_or (λ f. Some (line, f)) fault rest ≡ None → (fault ≡ None) × (rest ≡ None)
 fault_parts line None rest none = (refl, none)
 fault_parts line (Some fault) rest none = absurd (cc)
 
-named : (a b : Bool) (found : Option SiteRow) (row : SiteRow) (rest : Bool) → a ≡ b → rest ≡ is_some found → (b || rest) ≡ is_some (cond a (Some row) found)
+named : (a b : Bool) (found : Option SiteRow) (row : SiteRow) (rest : Bool) → a ≡ b → rest ≡ is_some found
+    → (b || rest) ≡ is_some (cond a (Some row) found)
 named true true found row rest same is = refl
 named true false found row rest same is = absurd (cc)
 named false true found row rest same is = absurd (cc)
@@ -92,13 +97,17 @@ module _ (sites : Option ℕ) (all : List SiteRow) where
 
   pub same_site : (q : ℕ) (rows : List SiteRow) → list_any (nat_eq q) (map (λ row. row.site) rows) ≡ is_some (row_for q rows)
   same_site q [] = refl
-  same_site q (row ∷ rows) = named (eqb row.site q) (eqb q row.site) (row_for q rows) row (list_any (nat_eq q) (map (λ r. r.site) rows)) (grind (arith, nat_tests)) (same_site q rows)
+  same_site q (row ∷ rows) =
+      named (eqb row.site q) (eqb q row.site) (row_for q rows) row (list_any (nat_eq q) (map (λ r. r.site) rows))
+      (grind (arith, nat_tests)) (same_site q rows)
 
-  all_sound-pushed : (rows : List SiteRow) (row : SiteRow) → AllByRecursion (SoundRow sites all) rows → SoundRow sites all row → AllByRecursion (SoundRow sites all) (rows ++ row ∷ [])
+  all_sound-pushed : (rows : List SiteRow) (row : SiteRow) → AllByRecursion (SoundRow sites all) rows
+      → SoundRow sites all row → AllByRecursion (SoundRow sites all) (rows ++ row ∷ [])
   all_sound-pushed [] row sound here = (here, tt)
   all_sound-pushed (r ∷ rows) row sound here = (sound.0, all_sound-pushed rows row sound.1 here)
 
-  good_line : (above : List WordLine) (line : WordLine) → Good above → row_fault sites (rows_of above) all (row_words line) ≡ None → Good (above ++ line ∷ [])
+  good_line : (above : List WordLine) (line : WordLine) → Good above
+      → row_fault sites (rows_of above) all (row_words line) ≡ None → Good (above ++ line ∷ [])
   good_line above line good none =
       let parts = line_parts sites (rows_of above) all (row_words line) none in
       let row = parts.0 in
@@ -109,13 +118,15 @@ module _ (sites : Option ℕ) (all : List SiteRow) where
         distinct =
             subst (λ rows. IsDistinct nat_eq (map (λ r. r.site) rows)) (sym pushed)
             (subst (IsDistinct nat_eq) (sym (map-append (λ (r : SiteRow). r.site) (rows_of above) (row ∷ [])))
-            (IsDistinct-push nat_eq_equiv (map (λ r. r.site) (rows_of above)) row.site good.distinct (same_site row.site (rows_of above) ∙ ap is_some parts.2)));
+            (IsDistinct-push nat_eq_equiv (map (λ r. r.site) (rows_of above)) row.site good.distinct
+            (same_site row.site (rows_of above) ∙ ap is_some parts.2)));
       }
 
   good_lines : (lines above : List WordLine) → Good above → fault_below sites all above lines ≡ None → Good (above ++ lines)
   good_lines [] above good none = subst Good (sym (append-nil above)) good
   good_lines (line ∷ lines) above good none =
-      let parts = fault_parts line.number (row_fault sites (rows_of above) all (row_words line)) (fault_below sites all (above ++ line ∷ []) lines) none in
+      let parts = fault_parts line.number (row_fault sites (rows_of above) all (row_words line))
+      (fault_below sites all (above ++ line ∷ []) lines) none in
       subst Good (append_assoc above (line ∷ []) lines) (good_lines lines (above ++ line ∷ []) (good_line above line good parts.0) parts.1)
 
   no_lines : Good []
@@ -150,7 +161,8 @@ same_row r s found first second = cc
 pub placed_line : (n : ℕ) (all : List SiteRow) (lines : List WordLine) (i : ℕ) (line : WordLine) → i < length lines → line ≡ get_or lines i line
     → fault_below (Some n) all [] lines ≡ None → LineNamesSites n line × IsNewSite (rows_of (take i lines)) line
 placed_line n all lines i line within is none =
-    let fault = subst (λ l. row_fault (Some n) (rows_of (take i lines)) all (row_words l) ≡ None) (sym is) (fault_at (Some n) all lines [] i line within none) in
+    let fault = subst (λ l. row_fault (Some n) (rows_of (take i lines)) all (row_words l) ≡ None) (sym is)
+    (fault_at (Some n) all lines [] i line within none) in
     let parts = line_parts (Some n) (rows_of (take i lines)) all (row_words line) fault in (
       λ row has. subst (NamesSites n) (same_row parts.0 row (site_row (row_words line)) parts.1 has) (names_sites n parts.0 parts.3.in_range),
       λ row has. subst (λ r. row_for r.site (rows_of (take i lines)) ≡ None) (same_row parts.0 row (site_row (row_words line)) parts.1 has) parts.2,

@@ -1,5 +1,6 @@
 -- the lists of rows without a fault, one for each site, have no fault
-use Rattle.std.proofs.Common.{◌≡◌, ◌∙◌, sym, ap, subst, ℕ, ◌+◌, ◌-◌, ◌≤◌, ◌<◌, ◌||◌, ◌&&◌, Bool, true, false, not, cond, All, List, [], ◌∷◌, Option, None, Some, eqb, is_some, leb, length, map, nat_eq, nat_lt, inl, inr, refl, arith, find}
+use Rattle.std.proofs.Common.{◌≡◌, ◌∙◌, sym, ap, subst, ℕ, ◌+◌, ◌-◌, ◌≤◌, ◌<◌, ◌||◌, ◌&&◌, Bool, true, false, not, cond, All, List, []}
+use Rattle.std.proofs.Common.{◌∷◌, Option, None, Some, eqb, is_some, leb, length, map, nat_eq, nat_lt, inl, inr, refl, arith, find}
 use Rattle.std.specs.List.{AllByRecursion, IsDistinct, list_any, range_with_len}
 use Rattle.std.specs.List.Sorted.{IsStrictlyIncreasing}
 use Rattle.std.specs.Option.{option_map, option_map_or}
@@ -10,7 +11,8 @@ use Rattle.std.proofs.lemmas.List.FromFn.{get_or-map-range_with_len, length-map-
 use Rattle.std.proofs.lemmas.List.Kept.{IsStrictlyIncreasing-filter}
 use Rattle.std.proofs.lemmas.Map.Keys.{IsDistinct-cons}
 use Rattle.std.proofs.lemmas.Map.Steps.{length-le_from_distinct_below}
-use Rattle.lattice_core.specs.Fault.{fault_among, first_fault, has_bad_site as has_bad_number, has_itself, has_too_many, merged_of, one_sided, site_fault}
+use Rattle.lattice_core.specs.Fault.{fault_among, first_fault, has_bad_site as has_bad_number, has_itself, has_too_many, merged_of}
+use Rattle.lattice_core.specs.Fault.{one_sided, site_fault}
 use Rattle.lattice_core.specs.SiteList.{is_listed, list_of, merged}
 use Rattle.lattice_core.specs.declared.fault.GraphFault.TheVariants.{OneSided}
 use Rattle.lattice_core.specs.declared.graph.TheConstants.{MAX_NEIGHBOURS}
@@ -102,10 +104,12 @@ none_passes p [] fails = refl
 none_passes p (x ∷ xs) fails =
     ap (λ b. cond b (Some x) (find p xs)) (fails x (listed_head x xs)) ∙ none_passes p xs (λ t listed. fails t (listed_tail x xs t listed))
 
-no_faults : (lists : List (List ℕ)) (sites : List ℕ) → ((s : ℕ) → is_listed sites s ≡ true → site_fault lists s ≡ None) → fault_among lists sites ≡ None
+no_faults : (lists : List (List ℕ)) (sites : List ℕ)
+    → ((s : ℕ) → is_listed sites s ≡ true → site_fault lists s ≡ None) → fault_among lists sites ≡ None
 no_faults lists [] none = refl
 no_faults lists (x ∷ sites) none =
-    ap (λ f. cond (is_some f) f (fault_among lists sites)) (none x (listed_head x sites)) ∙ no_faults lists sites (λ s listed. none s (listed_tail x sites s listed))
+    ap (λ f. cond (is_some f) f (fault_among lists sites)) (none x (listed_head x sites))
+    ∙ no_faults lists sites (λ s listed. none s (listed_tail x sites s listed))
 
 none_all : (p : ℕ → Bool) (xs : List ℕ) → list_any p xs ≡ false → AllByRecursion (λ y. p y ≡ false) xs
 none_all p [] none = tt
@@ -119,7 +123,8 @@ some_same : {X : Type 0} (P : X → Type 0) (x y : X) → Some x ≡ Some y → 
 some_same P x y same holds = let e : x ≡ y = cc in subst P e holds
 
 -- what holds of each row holds of the one that is found
-found_row : (P : SiteRow → Type 0) (q : ℕ) (rows : List SiteRow) (row : SiteRow) → AllByRecursion P rows → row_for q rows ≡ Some row → P row × (row.site ≡ q)
+found_row : (P : SiteRow → Type 0) (q : ℕ) (rows : List SiteRow) (row : SiteRow) → AllByRecursion P rows
+    → row_for q rows ≡ Some row → P row × (row.site ≡ q)
 found_row P q [] row all is = absurd (cc)
 found_row P q (r ∷ rows) row all is =
     elim (cases_Bool (eqb r.site q)) [
@@ -142,7 +147,8 @@ module _ (n : ℕ) (rows : List SiteRow) where
         | inr later ↦ sites_below rs q sound.1 later
       ]
 
-  module _ (sound : AllByRecursion (SoundRow (Some n) rows) rows) (whole : length rows ≡ n) (distinct : IsDistinct nat_eq (map (λ r. r.site) rows)) where
+  module _ (sound : AllByRecursion (SoundRow (Some n) rows) rows) (whole : length rows ≡ n)
+      (distinct : IsDistinct nat_eq (map (λ r. r.site) rows)) where
     -- each site has a row, since so many rows have different sites
     has_row : (s : ℕ) → s < n → is_some (row_for (s + 1) rows) ≡ true
     has_row s within =
@@ -150,8 +156,12 @@ module _ (n : ℕ) (rows : List SiteRow) where
           | inl t ↦ t
           | inr f ↦
               let sites : List ℕ = map (λ r. r.site) rows in
-              let with_site : IsDistinct nat_eq ((s + 1) ∷ sites) = IsDistinct-cons nat_eq (s + 1) sites (none_all (nat_eq (s + 1)) sites (same_site (Some n) rows (s + 1) rows ∙ f)) distinct in
-              let with_zero : IsDistinct nat_eq (0 ∷ (s + 1) ∷ sites) = IsDistinct-cons nat_eq 0 ((s + 1) ∷ sites) (ne_eqb 0 (s + 1) (λ e. omega arith), zero_apart rows sound) with_site in
+              let with_site : IsDistinct nat_eq ((s + 1) ∷ sites) =
+              IsDistinct-cons nat_eq (s + 1) sites
+              (none_all (nat_eq (s + 1)) sites (same_site (Some n) rows (s + 1) rows ∙ f)) distinct in
+              let with_zero : IsDistinct nat_eq (0 ∷ (s + 1) ∷ sites) =
+              IsDistinct-cons nat_eq 0 ((s + 1) ∷ sites)
+              (ne_eqb 0 (s + 1) (λ e. omega arith), zero_apart rows sound) with_site in
               let few : length (0 ∷ (s + 1) ∷ sites) ≤ n + 1 = length-le_from_distinct_below (0 ∷ (s + 1) ∷ sites) (n + 1) with_zero
               (λ q listed. elim (or_cases (eqb q 0) (eqb q (s + 1) || list_any (eqb q) sites) listed) [
                 | inl z ↦ let e : q ≡ 0 = eqb-true q 0 z in omega arith
@@ -184,7 +194,8 @@ module _ (n : ℕ) (rows : List SiteRow) where
           is = some.1;
           fine = parts.0;
           site = parts.1;
-          list = get_or-map-range_with_len (neighbours_at rows) 0 n s s [] within (omega arith) ∙ ap (λ r. option_map_or (λ r. less r.neighbours) r []) some.1;
+          list = get_or-map-range_with_len (neighbours_at rows) 0 n s s [] within (omega arith)
+              ∙ ap (λ r. option_map_or (λ r. less r.neighbours) r []) some.1;
         }
 
     list_count : length lists ≡ n
@@ -216,15 +227,19 @@ module _ (n : ℕ) (rows : List SiteRow) where
     few : (s : ℕ) → Found s → has_too_many lists s ≡ false
     few s at =
         ap (λ l. nat_lt MAX_NEIGHBOURS (length l)) (merged_is s at)
-        ∙ ap (nat_lt MAX_NEIGHBOURS) (merged_count n (less at.row.neighbours) (below at.row at.fine) ∙ once_less n at.row.neighbours (no_bad at.row at.fine))
+        ∙ ap (nat_lt MAX_NEIGHBOURS)
+        (merged_count n (less at.row.neighbours) (below at.row at.fine)
+        ∙ once_less n at.row.neighbours (no_bad at.row at.fine))
         ∙ at.fine.few
 
     -- the row of a neighbour names the site
     named_back : (r : SiteRow) (found : Option SiteRow) (site : ℕ) → found ≡ Some r → has_bad_site (Some n) r ≡ false
-        → option_map_or (λ row. not (has_bad_site (Some n) row) && not (is_listed row.neighbours site)) found false ≡ false → is_listed r.neighbours site ≡ true
+        → option_map_or (λ row. not (has_bad_site (Some n) row) && not (is_listed row.neighbours site)) found false
+        ≡ false → is_listed r.neighbours site ≡ true
     named_back r found site is sound answer =
         not-false (is_listed r.neighbours site)
-        (sym (ap (λ f. option_map_or (λ row. not (has_bad_site (Some n) row) && not (is_listed row.neighbours site)) f false) is ∙ ap (λ b. not b && not (is_listed r.neighbours site)) sound) ∙ answer)
+        (sym (ap (λ f. option_map_or (λ row. not (has_bad_site (Some n) row) && not (is_listed row.neighbours site)) f
+        false) is ∙ ap (λ b. not b && not (is_listed r.neighbours site)) sound) ∙ answer)
 
     back : (s t : ℕ) → Found s → Found t → (at : Found s) → is_listed at.row.neighbours (t + 1) ≡ true → is_listed (list_of lists t) s ≡ true
     back s t here there at listed =
@@ -238,7 +253,9 @@ module _ (n : ℕ) (rows : List SiteRow) where
     none_one_sided s at =
         none_passes (λ t. not (is_listed (list_of lists t) s)) (merged_of lists s)
         (λ t listed.
-        let among : is_listed (less at.row.neighbours) t ≡ true = sym (merged_listed n (less at.row.neighbours) t (below at.row at.fine)) ∙ ap (λ l. is_listed l t) (sym (merged_is s at)) ∙ listed in
+        let among : is_listed (less at.row.neighbours) t ≡ true =
+        sym (merged_listed n (less at.row.neighbours) t (below at.row at.fine))
+        ∙ ap (λ l. is_listed l t) (sym (merged_is s at)) ∙ listed in
         let low = below-listed n (less at.row.neighbours) t (below at.row at.fine) among in
         ap not (back s t at (found t low) at (sym (listed_less n at.row.neighbours t (no_bad at.row at.fine)) ∙ among)))
 
@@ -251,7 +268,8 @@ module _ (n : ℕ) (rows : List SiteRow) where
     range_low m s listed = let r = is_listed-range 0 m s in grind (arith, nat_tests, r, listed)
 
     none_first : first_fault lists ≡ None
-    none_first = no_faults lists (range_with_len 0 (length lists)) (λ s listed. none_at s (subst (λ m. s < m) list_count (range_low (length lists) s listed)))
+    none_first = no_faults lists (range_with_len 0 (length lists))
+        (λ s listed. none_at s (subst (λ m. s < m) list_count (range_low (length lists) s listed)))
 
 -- so for lines of rows without a fault, one for each site
 pub none_listed : (n : ℕ) (lines : List WordLine) → length lines ≡ n → IsFaultless n lines

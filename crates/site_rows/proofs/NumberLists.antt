@@ -1,5 +1,6 @@
 -- numbers that are sorted, each once
-use Rattle.std.proofs.Common.{◌≡◌, ◌∙◌, sym, ap, ℕ, ◌+◌, ◌<◌, ◌||◌, cond, List, [], ◌∷◌, Result, Ok, Err, get_or, is_ok, length, eqb, nat_cmp, IsPermutation, Less, Equal, Greater, inl, inr, refl, arith}
+use Rattle.std.proofs.Common.{◌≡◌, ◌∙◌, sym, ap, ℕ, ◌+◌, ◌<◌, ◌||◌, cond, List, [], ◌∷◌, Result, Ok, Err, get_or, is_ok, length, eqb}
+use Rattle.std.proofs.Common.{nat_cmp, IsPermutation, Less, Equal, Greater, inl, inr, refl, arith}
 use Rattle.std.specs.List.{dedup}
 use Rattle.std.specs.List.Sorted.{IsSorted, IsStrictlyIncreasing, IsSortedBy, IsBinarySearchResult, IsSearchInRange}
 use Rattle.std.specs.Ordering.{eq_by_cmp, is_lt}
@@ -19,7 +20,8 @@ use Rattle.site_rows.specs.RowFaults.{each_once}
 pub rising_from_sort : (sorted kept : List ℕ) → IsSorted nat_cmp sorted → kept ≡ dedup eqb sorted → IsStrictlyIncreasing kept
 rising_from_sort sorted kept order is = rw is (IsStrictlyIncreasing-dedup sorted order)
 
-pub listed_from_sort : (before sorted kept : List ℕ) (n : ℕ) → IsPermutation before sorted → kept ≡ dedup eqb sorted → is_listed kept n ≡ is_listed before n
+pub listed_from_sort : (before sorted kept : List ℕ) (n : ℕ) → IsPermutation before sorted → kept ≡ dedup eqb sorted
+    → is_listed kept n ≡ is_listed before n
 listed_from_sort before sorted kept n moved is =
     ap (λ ns. is_listed ns n) is
     ∙ is_listed-same (dedup eqb sorted) before n
@@ -54,7 +56,8 @@ sorted_numbers xs rising k d low high =
     let b : get_or xs (k + 1) d ≡ get_or xs (k + 1) 0 = get_or_default xs (k + 1) d 0 high in
     rw (a, b) (grind (arith, nat_tests, up))
 
-pub listed_from_search : (xs : List ℕ) (x : ℕ) (r : Result ℕ ℕ) → IsStrictlyIncreasing xs → IsSearchInRange r (length xs) → IsBinarySearchResult (λ (y : ℕ). nat_cmp y x) xs r → is_ok r ≡ is_listed xs x
+pub listed_from_search : (xs : List ℕ) (x : ℕ) (r : Result ℕ ℕ) → IsStrictlyIncreasing xs
+    → IsSearchInRange r (length xs) → IsBinarySearchResult (λ (y : ℕ). nat_cmp y x) xs r → is_ok r ≡ is_listed xs x
 listed_from_search xs x (Ok i) rising inside found =
     let at : get_or xs i x ≡ x = ranked _ x Equal (sym (found x)) in
     sym (listed-from_Contains _ x (i, inside, at))

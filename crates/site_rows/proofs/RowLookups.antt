@@ -1,5 +1,6 @@
 -- the row of a site among some rows, and one more
-use Rattle.std.proofs.Common.{◌≡◌, ◌∙◌, sym, ap, subst, ℕ, ◌++◌, Bool, true, false, cond, not, List, [], ◌∷◌, Option, None, Some, is_some, refl, arith, nat_cmp, eqb, inl, inr}
+use Rattle.std.proofs.Common.{◌≡◌, ◌∙◌, sym, ap, subst, ℕ, ◌++◌, Bool, true, false, cond, not, List, [], ◌∷◌, Option, None, Some, is_some}
+use Rattle.std.proofs.Common.{refl, arith, nat_cmp, eqb, inl, inr}
 use Rattle.std.specs.BTreeMap.{BTreeMap, is_at}
 use Rattle.std.specs.BTreeMap as tree
 use Rattle.std.specs.BTreeSet.{BTreeSet}
@@ -45,13 +46,16 @@ rows_with (Some row) above below whole same = ap (λ rows. row ∷ rows) same
 
 rows_of-append : (above below : List WordLine) → rows_of (above ++ below) ≡ rows_of above ++ rows_of below
 rows_of-append [] below = refl
-rows_of-append (line ∷ above) below = rows_with (site_row (row_words line)) (rows_of above) (rows_of below) (rows_of (above ++ below)) (rows_of-append above below)
+rows_of-append (line ∷ above) below =
+    rows_with (site_row (row_words line)) (rows_of above) (rows_of below) (rows_of (above ++ below))
+    (rows_of-append above below)
 
 -- a line without a row, and one with a row, below some lines
 pub rows_of-none : (above : List WordLine) (line : WordLine) → site_row (row_words line) ≡ None → rows_of (above ++ line ∷ []) ≡ rows_of above
 rows_of-none above line none = rows_of-append above (line ∷ []) ∙ rw none (append-nil (rows_of above))
 
-pub rows_of-pushed : (above : List WordLine) (line : WordLine) (row : SiteRow) → site_row (row_words line) ≡ Some row → rows_of (above ++ line ∷ []) ≡ rows_of above ++ row ∷ []
+pub rows_of-pushed : (above : List WordLine) (line : WordLine) (row : SiteRow) → site_row (row_words line) ≡ Some row
+    → rows_of (above ++ line ∷ []) ≡ rows_of above ++ row ∷ []
 rows_of-pushed above line row is = rows_of-append above (line ∷ []) ∙ rw is refl
 
 none_found : (sites : Option ℕ) (kept : Option RowNeighbours) (row : Option SiteRow) → KeepsFound sites kept row → kept ≡ None → row ≡ None
@@ -59,7 +63,8 @@ none_found sites None None keeps is = refl
 none_found sites None (Some row) keeps is = absurd keeps
 none_found sites (Some kept) row keeps is = absurd (cc)
 
-some_found : (sites : Option ℕ) (kept : Option RowNeighbours) (row : Option SiteRow) → KeepsFound sites kept row → is_some kept ≡ true → (r : SiteRow) × (row ≡ Some r)
+some_found : (sites : Option ℕ) (kept : Option RowNeighbours) (row : Option SiteRow) → KeepsFound sites kept row
+    → is_some kept ≡ true → (r : SiteRow) × (row ≡ Some r)
 some_found sites None row keeps is = absurd (cc)
 some_found sites (Some kept) None keeps is = absurd keeps
 some_found sites (Some kept) (Some row) keeps is = (row, refl)
@@ -70,13 +75,16 @@ pub index_pushed : (sites : Option ℕ) (rows : List SiteRow) (row : SiteRow) (k
     → ((q : ℕ) → tree.get nat_cmp new q ≡ cond (is_at (nat_cmp row.site) q) (Some kept) (tree.get nat_cmp old q))
     → Keeps sites kept row → IsIndexOf sites rows old → IsIndexOf sites (rows ++ row ∷ []) new
 index_pushed sites rows row kept old new none updates keeps index q =
-    let at : tree.get nat_cmp new q ≡ cond (eqb row.site q) (Some kept) (tree.get nat_cmp old q) = updates q ∙ ap (λ b. cond b (Some kept) (tree.get nat_cmp old q)) (same_key row.site q) in
+    let at : tree.get nat_cmp new q ≡ cond (eqb row.site q) (Some kept) (tree.get nat_cmp old q) =
+    updates q ∙ ap (λ b. cond b (Some kept) (tree.get nat_cmp old q)) (same_key row.site q) in
     elim (cases_Bool (eqb row.site q)) [
       | inl t ↦
           let same : row.site ≡ q = eqb-true row.site q t in
           let found : tree.get nat_cmp new q ≡ Some kept = rw t at at in
           let here : row_for q (rows ++ row ∷ []) ≡ Some row =
-          row_for-later q rows (row ∷ []) (subst (λ s. row_for s rows ≡ None) same (none_found sites (tree.get nat_cmp old row.site) (row_for row.site rows) (index row.site) none))
+          row_for-later q rows (row ∷ [])
+          (subst (λ s. row_for s rows ≡ None) same
+          (none_found sites (tree.get nat_cmp old row.site) (row_for row.site rows) (index row.site) none))
           ∙ rw t refl in
           rw (found, here) keeps
       | inr f ↦
@@ -102,10 +110,12 @@ pub none-from_test : {X : Type 0} (r : Option X) → is_some r ≡ false → r �
 none-from_test None none = refl
 none-from_test (Some x) none = absurd (cc)
 
-is_some-pushed : (q : ℕ) (rows : List SiteRow) (row : SiteRow) → is_some (row_for q (rows ++ row ∷ [])) ≡ cond (eqb row.site q) true (is_some (row_for q rows))
+is_some-pushed : (q : ℕ) (rows : List SiteRow) (row : SiteRow)
+    → is_some (row_for q (rows ++ row ∷ [])) ≡ cond (eqb row.site q) true (is_some (row_for q rows))
 is_some-pushed q [] row = elim (eqb row.site q) as (λ b. is_some (cond b (Some row) None) ≡ cond b true false) [ true ↦ refl | false ↦ refl ]
 is_some-pushed q (r ∷ rows) row =
-    elim (eqb r.site q) as (λ b. is_some (cond b (Some r) (row_for q (rows ++ row ∷ []))) ≡ cond (eqb row.site q) true (is_some (cond b (Some r) (row_for q rows))))
+    elim (eqb r.site q) as (λ b. is_some (cond b (Some r) (row_for q (rows ++ row ∷ [])))
+    ≡ cond (eqb row.site q) true (is_some (cond b (Some r) (row_for q rows))))
     [ true ↦ elim (eqb row.site q) as (λ b. true ≡ cond b true true) [ true ↦ refl | false ↦ refl ] | false ↦ is_some-pushed q rows row ]
 
 not-not : (b : Bool) → not (not b) ≡ b
@@ -122,7 +132,8 @@ sites_pushed rows row old new updates has q =
     ∙ ap (λ b. cond (eqb row.site q) true b) (has q)
     ∙ sym (is_some-pushed q rows row)
 
-pub first-from_added : (rows : List SiteRow) (site : ℕ) (added : Bool) (old : BTreeSet ℕ) → added ≡ not (sorted.contains nat_cmp old site) → HasSitesOf rows old
+pub first-from_added : (rows : List SiteRow) (site : ℕ) (added : Bool) (old : BTreeSet ℕ)
+    → added ≡ not (sorted.contains nat_cmp old site) → HasSitesOf rows old
     → not added ≡ is_some (row_for site rows)
 first-from_added rows site added old is has = ap not is ∙ not-not (sorted.contains nat_cmp old site) ∙ has site
 

@@ -1,5 +1,6 @@
 -- the words of a row, one by one
-use Rattle.std.proofs.Common.{◌≡◌, ◌∙◌, sym, ap, ℕ, ◌-◌, ◌≤◌, ◌<◌, Bool, List, [], ◌∷◌, drop, get_or, length, length-drop, map, take, Option, None, Some, refl, arith, option_and_then}
+use Rattle.std.proofs.Common.{◌≡◌, ◌∙◌, sym, ap, ℕ, ◌-◌, ◌≤◌, ◌<◌, Bool, List, [], ◌∷◌, drop, get_or, length, length-drop, map, take}
+use Rattle.std.proofs.Common.{Option, None, Some, refl, arith, option_and_then}
 use Rattle.std.proofs.lemmas.List.{take_all}
 use Rattle.std.specs.Option.{option_map}
 use Rattle.std.specs.Result.{result_ok}
@@ -25,7 +26,12 @@ row_made first past count t words =
     option_and_then (λ site.
     option_and_then (λ is_out_of_range.
     option_and_then (λ n.
-    option_map (λ neighbours. record { site = site; type_word = t; neighbours = neighbours; is_out_of_range = is_out_of_range }) (neighbours_of n words))
+    option_map (λ neighbours. record {
+      site = site;
+      type_word = t;
+      neighbours = neighbours;
+      is_out_of_range = is_out_of_range;
+    }) (neighbours_of n words))
     count) past) first
 
 pub short_row : {X : Type 0} (h : X → List ℕ) (words : List X) → length words < 5 → site_row (map h words) ≡ None
@@ -38,7 +44,9 @@ short_row h (a ∷ x ∷ y ∷ t ∷ n ∷ words) short = absurd (omega arith)
 
 pub long_row : {X : Type 0} (h : X → List ℕ) (words : List X) (d : X) → 5 ≤ length words
     → site_row (map h words)
-    ≡ row_made (result_ok (whole_number (h (get_or words 0 d)))) (is_either_out_of_range (h (get_or words 1 d)) (h (get_or words 2 d))) (result_ok (whole_number (h (get_or words 4 d))))
+    ≡ row_made (result_ok (whole_number (h (get_or words 0 d))))
+    (is_either_out_of_range (h (get_or words 1 d)) (h (get_or words 2 d)))
+    (result_ok (whole_number (h (get_or words 4 d))))
     (h (get_or words 3 d)) (map h (drop 5 words))
 long_row h [] d long = absurd (omega arith)
 long_row h (a ∷ []) d long = absurd (omega arith)
@@ -56,19 +64,24 @@ without_count None past t words = refl
 without_count (Some s) None t words = refl
 without_count (Some s) (Some p) t words = refl
 
-pub row_without_site : {X : Type 0} (h : X → List ℕ) (words : List X) (d : X) → 5 ≤ length words → result_ok (whole_number (h (get_or words 0 d))) ≡ None → site_row (map h words) ≡ None
+pub row_without_site : {X : Type 0} (h : X → List ℕ) (words : List X) (d : X) → 5 ≤ length words
+    → result_ok (whole_number (h (get_or words 0 d))) ≡ None → site_row (map h words) ≡ None
 row_without_site h words d long none =
     long_row h words d long
-    ∙ ap (λ first. row_made first (is_either_out_of_range (h (get_or words 1 d)) (h (get_or words 2 d))) (result_ok (whole_number (h (get_or words 4 d)))) (h (get_or words 3 d)) (map h (drop 5 words))) none
+    ∙ ap (λ first. row_made first (is_either_out_of_range (h (get_or words 1 d)) (h (get_or words 2 d)))
+    (result_ok (whole_number (h (get_or words 4 d)))) (h (get_or words 3 d)) (map h (drop 5 words))) none
 
 pub row_without_decimals : {X : Type 0} (h : X → List ℕ) (words : List X) (d : X) → 5 ≤ length words
     → is_either_out_of_range (h (get_or words 1 d)) (h (get_or words 2 d)) ≡ None → site_row (map h words) ≡ None
 row_without_decimals h words d long none =
     long_row h words d long
-    ∙ ap (λ past. row_made (result_ok (whole_number (h (get_or words 0 d)))) past (result_ok (whole_number (h (get_or words 4 d)))) (h (get_or words 3 d)) (map h (drop 5 words))) none
-    ∙ without_decimals (result_ok (whole_number (h (get_or words 0 d)))) (result_ok (whole_number (h (get_or words 4 d)))) (h (get_or words 3 d)) (map h (drop 5 words))
+    ∙ ap (λ past. row_made (result_ok (whole_number (h (get_or words 0 d)))) past
+    (result_ok (whole_number (h (get_or words 4 d)))) (h (get_or words 3 d)) (map h (drop 5 words))) none
+    ∙ without_decimals (result_ok (whole_number (h (get_or words 0 d))))
+    (result_ok (whole_number (h (get_or words 4 d)))) (h (get_or words 3 d)) (map h (drop 5 words))
 
-pub row_without_count : {X : Type 0} (h : X → List ℕ) (words : List X) (d : X) → 5 ≤ length words → result_ok (whole_number (h (get_or words 4 d))) ≡ None → site_row (map h words) ≡ None
+pub row_without_count : {X : Type 0} (h : X → List ℕ) (words : List X) (d : X) → 5 ≤ length words
+    → result_ok (whole_number (h (get_or words 4 d))) ≡ None → site_row (map h words) ≡ None
 row_without_count h words d long none =
     let past = is_either_out_of_range (h (get_or words 1 d)) (h (get_or words 2 d)) in
     long_row h words d long
@@ -81,9 +94,13 @@ made_without first past count t words s p n is_first is_out_of_range is_count no
 
 pub row_without_neighbours : {X : Type 0} (h : X → List ℕ) (words : List X) (d : X) (s : ℕ) (p : Bool) (n : ℕ) → 5 ≤ length words
     → result_ok (whole_number (h (get_or words 0 d))) ≡ Some s → is_either_out_of_range (h (get_or words 1 d)) (h (get_or words 2 d)) ≡ Some p
-    → result_ok (whole_number (h (get_or words 4 d))) ≡ Some n → neighbours_of n (map h (take (length words - 5) (drop 5 words))) ≡ None → site_row (map h words) ≡ None
+    → result_ok (whole_number (h (get_or words 4 d))) ≡ Some n
+    → neighbours_of n (map h (take (length words - 5) (drop 5 words))) ≡ None → site_row (map h words) ≡ None
 row_without_neighbours h words d s p n long first past count none =
-    let whole : take (length words - 5) (drop 5 words) ≡ drop 5 words = take_all (length words - 5) (drop 5 words) (omega (arith, length-drop 5 words)) in
+    let whole : take (length words - 5) (drop 5 words) ≡ drop 5 words =
+    take_all (length words - 5) (drop 5 words) (omega (arith, length-drop 5 words)) in
     long_row h words d long
-    ∙ made_without (result_ok (whole_number (h (get_or words 0 d)))) (is_either_out_of_range (h (get_or words 1 d)) (h (get_or words 2 d))) (result_ok (whole_number (h (get_or words 4 d)))) (h (get_or words 3 d)) (map h (drop 5 words)) s p n
+    ∙ made_without (result_ok (whole_number (h (get_or words 0 d))))
+    (is_either_out_of_range (h (get_or words 1 d)) (h (get_or words 2 d)))
+    (result_ok (whole_number (h (get_or words 4 d)))) (h (get_or words 3 d)) (map h (drop 5 words)) s p n
     first past count (sym (ap (λ ws. neighbours_of n (map h ws)) whole) ∙ none)

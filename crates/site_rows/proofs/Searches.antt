@@ -11,7 +11,8 @@ position_from-map p h i (y ∷ ys) = ap (λ r. cond (p (h y)) (Some i) r) (posit
 position_from-more : {X : Type 0} (p : X → Bool) (i : ℕ) (xs : List X) → position_from p (i + 1) xs ≡ option_map (λ n. n + 1) (position_from p i xs)
 position_from-more p i [] = refl
 position_from-more p i (x ∷ xs) =
-    elim (p x) as (λ b. cond b (Some (i + 1)) (position_from p (i + 1 + 1) xs) ≡ option_map (λ n. n + 1) (cond b (Some i) (position_from p (i + 1) xs)))
+    elim (p x) as (λ b. cond b (Some (i + 1)) (position_from p (i + 1 + 1) xs)
+    ≡ option_map (λ n. n + 1) (cond b (Some i) (position_from p (i + 1) xs)))
     [ true ↦ refl | false ↦ position_from-more p (i + 1) xs ]
 
 -- the place of the first value that passes, counted from 1; 0 where none does
@@ -19,4 +20,5 @@ pub counted_place : {X Y : Type 0} (p : X → Bool) (h : Y → X) (ys : List Y) 
     → unwrap_or (option_map (λ n. n + 1) r) 0 ≡ unwrap_or (position_from p 1 (map h ys)) 0
 counted_place p h ys r is =
     let first : position (λ y. p (h y)) ys ≡ position_from (λ y. p (h y)) 0 ys = position_from-zero (λ y. p (h y)) ys in
-    ap (λ o. unwrap_or o 0) (ap (option_map (λ n. n + 1)) (is ∙ first) ∙ sym (position_from-more (λ y. p (h y)) 0 ys) ∙ sym (position_from-map p h 1 ys))
+    ap (λ o. unwrap_or o 0) (ap (option_map (λ n. n + 1)) (is ∙ first) ∙ sym (position_from-more (λ y. p (h y)) 0 ys)
+    ∙ sym (position_from-map p h 1 ys))

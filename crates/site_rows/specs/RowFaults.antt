@@ -48,7 +48,8 @@ row_fault sites above all words = option_map_or (λ row. first_that_holds (row_f
 abbrev pub fault_below : Option ℕ → List SiteRow → List WordLine → List WordLine → Option (ℕ × RowFault)
 fault_below sites all above [] = None
 fault_below sites all above (line ∷ lines) =
-    option_map_or (λ fault. Some (line.number, fault)) (row_fault sites (rows_of above) all (row_words line)) (fault_below sites all (above ++ line ∷ []) lines)
+    option_map_or (λ fault. Some (line.number, fault)) (row_fault sites (rows_of above) all (row_words line))
+    (fault_below sites all (above ++ line ∷ []) lines)
 
 -- the first fault of the rows of a file, which are these lines
 abbrev pub first_fault : Option ℕ → List WordLine → Option (ℕ × RowFault)

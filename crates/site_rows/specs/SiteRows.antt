@@ -1,6 +1,7 @@
 -- The rows of `lattice_structure` (Zacros manual), one for each site: the site's number from 1, its two coordinates, its
 -- type, the number of its neighbours, and its neighbours.
-use Rattle.std.specs.Prelude.{ℕ, ◌==◌, ◌||◌, Bool, true, false, List, [], ◌∷◌, length, Option, None, Some, Result, Ok, Err, if◌then◌else◌, option_and_then}
+use Rattle.std.specs.Prelude.{ℕ, ◌==◌, ◌||◌, Bool, true, false, List, [], ◌∷◌, length, Option, None, Some, Result, Ok, Err, if◌then◌else◌}
+use Rattle.std.specs.Prelude.{option_and_then}
 use Rattle.std.specs.List.{find}
 use Rattle.std.specs.Option.{option_map, option_map_or}
 use Rattle.std.specs.Result.{result_ok}
@@ -49,7 +50,12 @@ site_row (a ∷ x ∷ y ∷ t ∷ n ∷ words) =
     option_and_then (λ site.
     option_and_then (λ is_out_of_range.
     option_and_then (λ count.
-    option_map (λ neighbours. record { site = site; type_word = t; neighbours = neighbours; is_out_of_range = is_out_of_range }) (neighbours_of count words))
+    option_map (λ neighbours. record {
+      site = site;
+      type_word = t;
+      neighbours = neighbours;
+      is_out_of_range = is_out_of_range;
+    }) (neighbours_of count words))
     (result_ok (whole_number n))) (is_either_out_of_range x y)) (result_ok (whole_number a))
 
 -- the rows of the right form, in order

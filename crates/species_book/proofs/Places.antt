@@ -1,5 +1,6 @@
 -- the place of a name is where it stands, and there is none exactly where it stands nowhere
-use Rattle.std.proofs.Common.{◌≡◌, ◌↔◌, ℕ, ◌+◌, ◌<◌, Bool, true, false, not, ◌&&◌, ◌||◌, IsTrue, IsNone, Option, Some, None, List, [], ◌∷◌, length, zero, suc, subst, add-zero, refl, ap, ◌∙◌, arith, ⊎_elim}
+use Rattle.std.proofs.Common.{◌≡◌, ◌↔◌, ℕ, ◌+◌, ◌<◌, Bool, true, false, not, ◌&&◌, ◌||◌, IsTrue, IsNone, Option, Some, None, List, []}
+use Rattle.std.proofs.Common.{◌∷◌, length, zero, suc, subst, add-zero, refl, ap, ◌∙◌, arith, ⊎_elim}
 use Rattle.std.specs.List.{list_any, position_from, slice_get}
 use Rattle.std.specs.Str.{bytes_eq}
 use Rattle.std.proofs.lemmas.Bool.{cases_Bool}
@@ -39,14 +40,16 @@ both true y e = absurd (let f : ⊥ = cc in f)
 both false y e = (refl, e)
 
 -- no member of a list is a name that differs from each
-differs : (names : List (List ℕ)) (name other : List ℕ) (i : ℕ) → slice_get names i ≡ Some name → list_any (λ m. bytes_eq other m) names ≡ false → bytes_eq other name ≡ false
+differs : (names : List (List ℕ)) (name other : List ℕ) (i : ℕ) → slice_get names i ≡ Some name
+    → list_any (λ m. bytes_eq other m) names ≡ false → bytes_eq other name ≡ false
 differs [] name other i stands none = absurd (let e : ⊥ = cc in e)
 differs (n ∷ ns) name other zero stands none =
     let same : n ≡ name = cc in
     subst (λ (m : List ℕ). bytes_eq other m ≡ false) same (neither (bytes_eq other n) _ none).0
 differs (n ∷ ns) name other (suc i) stands none = differs ns name other i stands (neither (bytes_eq other n) _ none).1
 
-complete : (names : List (List ℕ)) (name : List ℕ) (at i : ℕ) → are_distinct names ≡ true → slice_get names i ≡ Some name → position_from (λ n. bytes_eq n name) at names ≡ Some (at + i)
+complete : (names : List (List ℕ)) (name : List ℕ) (at i : ℕ) → are_distinct names ≡ true
+    → slice_get names i ≡ Some name → position_from (λ n. bytes_eq n name) at names ≡ Some (at + i)
 complete [] name at i distinct stands = absurd (let e : ⊥ = cc in e)
 complete (n ∷ ns) name at zero distinct stands =
     let same : n ≡ name = cc in
@@ -56,7 +59,8 @@ complete (n ∷ ns) name at (suc i) distinct stands =
     let place : at + 1 + i ≡ at + suc i = omega arith in
     rw (differs ns name n i stands parts.0) (complete ns name (at + 1) i parts.1 stands ∙ ap Some place)
 
-pub place_found : (names : List (List ℕ)) (name : List ℕ) → IsTrue (are_distinct names) → (i : ℕ) → (place_of names name ≡ Some i) ↔ (slice_get names i ≡ Some name)
+pub place_found : (names : List (List ℕ)) (name : List ℕ) → IsTrue (are_distinct names) → (i : ℕ)
+    → (place_of names name ≡ Some i) ↔ (slice_get names i ≡ Some name)
 place_found names name distinct i = (
   (λ found.
       let at : StandsAt names name 0 i = sound names name 0 i found in
@@ -65,7 +69,8 @@ place_found names name distinct i = (
   (λ stands. let same : 0 + i ≡ i = omega arith in complete names name 0 i distinct stands ∙ ap Some same),
 )
 
-none_stands : (names : List (List ℕ)) (name : List ℕ) (r : Option ℕ) → place_of names name ≡ r → ((i : ℕ) → slice_get names i ≡ Some name → ⊥) → IsNone r
+none_stands : (names : List (List ℕ)) (name : List ℕ) (r : Option ℕ) → place_of names name ≡ r
+    → ((i : ℕ) → slice_get names i ≡ Some name → ⊥) → IsNone r
 none_stands names name None e nowhere = refl
 none_stands names name (Some j) e nowhere = absurd (let at : StandsAt names name 0 j = sound names name 0 j e in nowhere at.offset at.stands)
 
@@ -73,7 +78,8 @@ not_both : (r : Option ℕ) (i : ℕ) → IsNone r → r ≡ Some i → ⊥
 not_both None i none e = cc
 not_both (Some j) i none e = let f : true ≡ false = none in cc
 
-pub place_none : (names : List (List ℕ)) (name : List ℕ) → IsTrue (are_distinct names) → IsNone (place_of names name) ↔ ((i : ℕ) → slice_get names i ≡ Some name → ⊥)
+pub place_none : (names : List (List ℕ)) (name : List ℕ) → IsTrue (are_distinct names) → IsNone (place_of names name)
+    ↔ ((i : ℕ) → slice_get names i ≡ Some name → ⊥)
 place_none names name distinct = (
   (λ none i stands. not_both (place_of names name) i none ((place_found names name distinct i).1 stands)),
   none_stands names name (place_of names name) refl,

@@ -24,9 +24,11 @@ returns c size capped =
     let value = c.without_zeros-digits.ensures.digits (take 18 (significant m)) digits (sym kept.value) in
     let trimmed = c.without_zeros-digits.ensures.zeros (take 18 (significant m)) digits (sym kept.value) in
     let exact = scientific_some c.args.negative m (signed c.args.exponent.0 size) _ _ _ value (omega arith) trimmed kept.dropped in
-    let power : to_z w128 (of_z w128 c.moved.result) ≡ (signed c.args.exponent.0 c.args.exponent.1 -ℤ pos (places m)) +ℤ pos (c.significant_part-kept.result.dropped + c.without_zeros-digits.result.1) =
+    let power : to_z w128 (of_z w128 c.moved.result) ≡ (signed c.args.exponent.0 c.args.exponent.1 -ℤ pos (places m))
+    +ℤ pos (c.significant_part-kept.result.dropped + c.without_zeros-digits.result.1) =
     omega (arith, ints, c.moved.ensures, c.signed-exponent.ensures, c.places.ensures) in
     c.with_power.ensures
     ∙ ap (λ p. within_power (record { negative = c.args.negative; digits = c.without_zeros-digits.result.0; power = p })) power
-    ∙ power_capped c.args.negative c.without_zeros-digits.result.0 c.args.exponent.0 size c.args.exponent.1 (places m) _ capped (omega arith) (omega arith)
+    ∙ power_capped c.args.negative c.without_zeros-digits.result.0 c.args.exponent.0 size c.args.exponent.1 (places m)
+    _ capped (omega arith) (omega arith)
     ∙ ap within_power (sym exact)

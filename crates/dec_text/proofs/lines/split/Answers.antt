@@ -13,7 +13,8 @@ loop-start-preserved c =
     let end = c.line_end-end.result in
     let next = next_run is_line_feed text c.loop-start.start (length text) end c.loop-start-test.true (omega arith) c.line_end-end.ensures.place in
     rw c.in_ok-push_line.ensures (record {
-      lines = line_pushed _ _ _ _ (run c.loop-start.start (slice_range text c.loop-start.start end)) (runs is_line_feed (end + 1) (slice_range text (end + 1) (length text))) _ _
+      lines = line_pushed _ _ _ _ (run c.loop-start.start (slice_range text c.loop-start.start end))
+          (runs is_line_feed (end + 1) (slice_range text (end + 1) (length text))) _ _
           c.in_ok-words.ensures.words
           (ap (lines_from c.loop-start.number) next)
           c.loop-start.invariant.lines;

@@ -11,7 +11,8 @@ pub returns-then-misses_word : goal.returns-then-misses_word
 returns-then-misses_word c =
     let text = c.args.bytes.now in
     let rule = c.args.rule.now in
-    let repeated = ap (λ items. is_repeated (map (item_at text) items) rule) (sym c.deref.ensures.value) ∙ sym c.is_repeated.ensures ∙ c.if-is_repeated.false in
+    let repeated = ap (λ items. is_repeated (map (item_at text) items) rule) (sym c.deref.ensures.value)
+    ∙ sym c.is_repeated.ensures ∙ c.if-is_repeated.false in
     let misses =
     ap (λ items. misses_word (block_of (reading_at text c.args.reading.now)) (map (item_at text) items) rule) (sym c.deref-2.ensures.value)
     ∙ ap (λ kind. misses_word kind (map (item_at text) c.deref-2.result.now) rule) (sym (c.block.ensures text))
@@ -27,7 +28,8 @@ pub returns : goal.returns
 returns c =
     let text = c.args.bytes.now in
     let rule = c.args.rule.now in
-    let repeated = ap (λ items. is_repeated (map (item_at text) items) rule) (sym c.deref.ensures.value) ∙ sym c.is_repeated.ensures ∙ c.if-is_repeated.false in
+    let repeated = ap (λ items. is_repeated (map (item_at text) items) rule) (sym c.deref.ensures.value)
+    ∙ sym c.is_repeated.ensures ∙ c.if-is_repeated.false in
     let misses =
     ap (λ items. misses_word (block_of (reading_at text c.args.reading.now)) (map (item_at text) items) rule) (sym c.deref-2.ensures.value)
     ∙ ap (λ kind. misses_word kind (map (item_at text) c.deref-2.result.now) rule) (sym (c.block.ensures text))

@@ -22,9 +22,12 @@ loop-name-preserved c =
     record {
       seen =
           subst (λ words. HasSeen words c.insert.new.self) (sym (next_name h names i _ c.bytes.result.now c.loop-name-test.true c.bytes.ensures))
-          (seen_more (map h (take i names)) c.bytes.result c.loop-name.seen c.insert.new.self c.in_ok-insert.ensures.updates.0 c.loop-name.invariant.seen);
-      none = repeat_passed h names i _ c.bytes.result.now c.loop-name-test.true c.bytes.ensures c.loop-name.invariant.none (sym (c.loop-name.invariant.seen c.bytes.result) ∙ new);
+          (seen_more (map h (take i names)) c.bytes.result c.loop-name.seen c.insert.new.self
+          c.in_ok-insert.ensures.updates.0 c.loop-name.invariant.seen);
+      none = repeat_passed h names i _ c.bytes.result.now c.loop-name-test.true c.bytes.ensures
+          c.loop-name.invariant.none (sym (c.loop-name.invariant.seen c.bytes.result) ∙ new);
     }
 
 pub returns : goal.returns
-returns c = sym (ap (λ names. names_repeat (map (bytes_at c.args.bytes.now) names)) (sym (take_all c.loop-name.name-index c.args.names.now c.loop-name-test.false)) ∙ c.loop-name.invariant.none)
+returns c = sym (ap (λ names. names_repeat (map (bytes_at c.args.bytes.now) names))
+    (sym (take_all c.loop-name.name-index c.args.names.now c.loop-name-test.false)) ∙ c.loop-name.invariant.none)

@@ -27,12 +27,30 @@ returns-clause-range c =
 
 pub returns-clause-power : goal.returns-clause-power
 returns-clause-power c k is =
-    omega (arith, ints, is_log2 c, log2_of-power_is c.args.y c.requires.positive c.requires.in_range k is, log2_of-le c.args.y c.requires.positive c.requires.in_range)
+    omega (
+      arith,
+      ints,
+      is_log2 c,
+      log2_of-power_is c.args.y c.requires.positive c.requires.in_range k is,
+      log2_of-le c.args.y c.requires.positive c.requires.in_range,
+    )
 
 pub returns-clause-low : goal.returns-clause-low
 returns-clause-low c k low =
-    omega (arith, ints, is_log2 c, log2_of-low c.args.y c.requires.positive c.requires.in_range k low, log2_of-le c.args.y c.requires.positive c.requires.in_range)
+    omega (
+      arith,
+      ints,
+      is_log2 c,
+      log2_of-low c.args.y c.requires.positive c.requires.in_range k low,
+      log2_of-le c.args.y c.requires.positive c.requires.in_range,
+    )
 
 pub returns-clause-high : goal.returns-clause-high
 returns-clause-high c k high =
-    omega (arith, ints, is_log2 c, log2_of-high c.args.y c.requires.positive c.requires.in_range k (rw add-one at high), log2_of-le c.args.y c.requires.positive c.requires.in_range)
+    omega (
+      arith,
+      ints,
+      is_log2 c,
+      log2_of-high c.args.y c.requires.positive c.requires.in_range k (rw add-one at high),
+      log2_of-le c.args.y c.requires.positive c.requires.in_range,
+    )

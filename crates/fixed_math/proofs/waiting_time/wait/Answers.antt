@@ -1,7 +1,8 @@
 -- Each answer by the lemma on that answer.
 use Rattle.std.proofs.Common.{◌∙◌, ap, ℕ, ◌+◌, arith}
-use Rattle.kmc_base.specs.declared.moment.When.TheVariants.{At}
-use Rattle.fixed_math.proofs.TimeLemmas.{seconds_fit, seconds_in_range, is_mean_wait, time_of-none, time_of-late, time_of-past, time_of-due, wait_of-product, never_at}
+use Rattle.kmc_base.specs.declared.firing_time.When.TheVariants.{At}
+use Rattle.fixed_math.proofs.TimeLemmas.{seconds_fit, seconds_in_range, is_mean_wait, time_of-none, time_of-late, time_of-past}
+use Rattle.fixed_math.proofs.TimeLemmas.{time_of-due, wait_of-product, never_at}
 use Rattle.fixed_math.proofs.waiting_time.wait.Goals as goal
 
 pub returns-in_default-clause-value : goal.returns-in_default-clause-value
@@ -24,7 +25,9 @@ pub returns-then-time-gt-END_OF_TIME-clause-value : goal.returns-then-time-gt-EN
 returns-then-time-gt-END_OF_TIME-clause-value c =
     let small = c.requires.rate c.in-Some.lg c.in-Some.is in
     let is_mean = is_mean_wait c.in-Some.lg small c.exp2-mantissa.result c.exp2-mantissa.ensures.value in
-    let is_wait = c.max.ensures ∙ wait_of-product c.args.lg c.in-Some.lg c.args.w c.args.now c.exp2-mantissa.result c.in-Some.is is_mean c.exp2-mantissa.ensures.exponent
+    let is_wait = c.max.ensures
+    ∙ wait_of-product c.args.lg c.in-Some.lg c.args.w c.args.now c.exp2-mantissa.result c.in-Some.is is_mean
+    c.exp2-mantissa.ensures.exponent
     c.from.result c.from-2.result c.scaled.result (c.from.ensures ∙ c.gap.ensures.value) c.from-2.ensures c.scaled.ensures.value in
     time_of-past c.args.lg c.in-Some.lg c.args.w c.args.now c.exp2-mantissa.result c.in-Some.is is_mean c.exp2-mantissa.ensures.exponent
     (omega (arith, is_wait))
@@ -33,7 +36,9 @@ pub returns-else-time-gt-END_OF_TIME-clause-value : goal.returns-else-time-gt-EN
 returns-else-time-gt-END_OF_TIME-clause-value c =
     let small = c.requires.rate c.in-Some.lg c.in-Some.is in
     let is_mean = is_mean_wait c.in-Some.lg small c.exp2-mantissa.result c.exp2-mantissa.ensures.value in
-    let is_wait = c.max.ensures ∙ wait_of-product c.args.lg c.in-Some.lg c.args.w c.args.now c.exp2-mantissa.result c.in-Some.is is_mean c.exp2-mantissa.ensures.exponent
+    let is_wait = c.max.ensures
+    ∙ wait_of-product c.args.lg c.in-Some.lg c.args.w c.args.now c.exp2-mantissa.result c.in-Some.is is_mean
+    c.exp2-mantissa.ensures.exponent
     c.from.result c.from-2.result c.scaled.result (c.from.ensures ∙ c.gap.ensures.value) c.from-2.ensures c.scaled.ensures.value in
     ap (λ (t : ℕ). At (c.args.now + t)) is_wait ∙
     time_of-due c.args.lg c.in-Some.lg c.args.w c.args.now c.exp2-mantissa.result c.in-Some.is is_mean c.exp2-mantissa.ensures.exponent

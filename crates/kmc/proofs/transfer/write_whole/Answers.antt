@@ -21,7 +21,12 @@ loop-preserved g c =
     let (done, split, before) = c.loop.invariant in
     let rest = c.loop.left.now in
     elim c.match-write.branch [
-      | in-Ok w ↦ (done ++ take w.in-Ok.taken rest, rw w.left-is (front_moved _ done rest w.in-Ok.taken split ∙ ap (λ l. (done ++ take w.in-Ok.taken rest) ++ l) (sym (take_rest rest w.in-Ok.taken))), Appends-trans _ _ _ _ _ before w.in-Ok.ensures.bytes)
+      | in-Ok w ↦ (
+        done ++ take w.in-Ok.taken rest,
+        rw w.left-is (front_moved _ done rest w.in-Ok.taken split
+            ∙ ap (λ l. (done ++ take w.in-Ok.taken rest) ++ l) (sym (take_rest rest w.in-Ok.taken))),
+        Appends-trans _ _ _ _ _ before w.in-Ok.ensures.bytes,
+      )
       | in-Err+else-ne w ↦ (done, rw w.left-is split, Appends-kept _ _ _ _ before w.in-Err.ensures.bytes)
     ]
 

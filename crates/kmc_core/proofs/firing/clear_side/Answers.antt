@@ -13,7 +13,9 @@ pub clear-requires : goal.clear-requires
 clear-requires c =
     let at = c.loop-vertex.invariant in
     subst (λ own. IsWholeAdsorbate c.loop-vertex.config (site_numbers own)) (sym c.sites.ensures.value)
-    (whole_entity (dentates_in c.args.book.now) c.args.side.now c.requires.side (site_numbers c.args.sites.now) (length-numbers c.args.sites.now ∙ c.requires.vertices) c.requires.different (c.loop-vertex.vertex - 1) _ _ c.in-Some.ensures c.args.config.now c.loop-vertex.config at.progress c.requires.matches at.well_formed)
+    (whole_entity (dentates_in c.args.book.now) c.args.side.now c.requires.side (site_numbers c.args.sites.now)
+    (length-numbers c.args.sites.now ∙ c.requires.vertices) c.requires.different (c.loop-vertex.vertex - 1) _ _
+    c.in-Some.ensures c.args.config.now c.loop-vertex.config at.progress c.requires.matches at.well_formed)
 
 pub loop-vertex-preserved : goal.loop-vertex-preserved
 loop-vertex-preserved c =
@@ -28,7 +30,8 @@ loop-vertex-preserved c =
     elim c.match-entity_from.branch [
       | in-Some w ↦ record {
         progress = subst Goes next
-            (clear_more book side c.requires.side sites long c.requires.different k _ _ w.in-Some.ensures c.args.config.now c.loop-vertex.config c.match-entity_from.config at.progress
+            (clear_more book side c.requires.side sites long c.requires.different k _ _ w.in-Some.ensures
+            c.args.config.now c.loop-vertex.config c.match-entity_from.config at.progress
             (ap length w.config-is ∙ w.clear.ensures.count)
             (w.config-is ∙ w.clear.ensures.states ∙ ap (λ own. cleared c.loop-vertex.config (site_numbers own)) w.sites.ensures.value));
         well_formed = subst (IsWellFormed book) (sym w.config-is) (w.clear.ensures.well_formed book at.well_formed);
@@ -45,4 +48,7 @@ loop-vertex-preserved c =
 pub returns-clause-vacant : goal.returns-clause-vacant
 returns-clause-vacant c =
     let past : length c.args.side.now.wanted ≤ c.loop-vertex.vertex - 1 = omega (arith, c.len-vertex-end.ensures.value) in
-    all_vacant (dentates_in c.args.book.now) c.args.side.now c.requires.side (site_numbers c.args.sites.now) c.args.config.now c.loop-vertex.config (c.loop-vertex.vertex - 1) (length-numbers c.args.sites.now ∙ c.requires.vertices) past c.requires.matches c.loop-vertex.invariant.progress
+    all_vacant (dentates_in c.args.book.now) c.args.side.now c.requires.side (site_numbers c.args.sites.now)
+    c.args.config.now c.loop-vertex.config (c.loop-vertex.vertex - 1)
+    (length-numbers c.args.sites.now ∙ c.requires.vertices) past c.requires.matches
+    c.loop-vertex.invariant.progress

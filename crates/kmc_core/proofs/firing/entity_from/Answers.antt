@@ -21,7 +21,8 @@ entity_sites-own-requires-clause-dentates c =
 
 pub dentates-requires : goal.dentates-requires
 dentates-requires c =
-    let whole = whole_want (dentates_in c.args.book.now) c.args.side.now c.requires.side (c.args.vertex - 1) c.in-Holds.entity 1 c.in-Holds.species (first (goal.at.dentates-requires c).Else-dentate-ne1) in
+    let whole = whole_want (dentates_in c.args.book.now) c.args.side.now c.requires.side (c.args.vertex - 1)
+    c.in-Holds.entity 1 c.in-Holds.species (first (goal.at.dentates-requires c).Else-dentate-ne1) in
     omega (arith, species_inside c.args.book.now.dentates c.in-Holds.species.0 (omega (arith, whole.1)), c.surface_names.ensures.dentates_match)
 
 pub returns : goal.returns
@@ -29,5 +30,8 @@ returns c =
     let book = c.args.book.now in
     let own = c.entity_sites-own in
     let count = sym (c.new.ensures ∙ ap (λ n. take n own.result) (c.from-count.ensures ∙ c.dentates.ensures)) in
-    subst (λ sites. IsEntity (dentates_in book) c.args.side.now.wanted (site_numbers c.args.sites.now) (c.args.vertex - 1) c.in-Holds.species (site_numbers sites)) count
-    (entity_is (dentates_in book) c.args.side.now c.requires.side (c.args.vertex - 1) c.in-Holds.entity c.in-Holds.species (site_numbers c.args.sites.now) own.result (first (goal.at.returns c).Else-dentate-ne1) own.ensures.eight (up_to_eight book.dentates c.requires.dentates c.in-Holds.species.0) own.ensures.placed)
+    subst (λ sites. IsEntity (dentates_in book) c.args.side.now.wanted (site_numbers c.args.sites.now)
+    (c.args.vertex - 1) c.in-Holds.species (site_numbers sites)) count
+    (entity_is (dentates_in book) c.args.side.now c.requires.side (c.args.vertex - 1) c.in-Holds.entity
+    c.in-Holds.species (site_numbers c.args.sites.now) own.result (first (goal.at.returns c).Else-dentate-ne1)
+    own.ensures.eight (up_to_eight book.dentates c.requires.dentates c.in-Holds.species.0) own.ensures.placed)

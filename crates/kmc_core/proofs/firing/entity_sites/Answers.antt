@@ -12,7 +12,9 @@ use Rattle.kmc_core.proofs.firing.entity_sites.Goals.{in-Holds+then-other-entity
 
 -- the vertices so far have their sites in the places of a list
 abbrev Placed : (c : Joined-wanted) → List SiteId → Type 0
-Placed c own = (k d : ℕ) (p : SpeciesId) → k < c.loop-place.place + 1 → want_at c.args.side.now.wanted k ≡ Holds c.args.entity p d → get_or (site_numbers own) (d - 1) 0 ≡ get_or (site_numbers c.args.sites.now) k 0
+Placed c own = (k d : ℕ) (p : SpeciesId) → k < c.loop-place.place + 1
+    → want_at c.args.side.now.wanted k ≡ Holds c.args.entity p d
+    → get_or (site_numbers own) (d - 1) 0 ≡ get_or (site_numbers c.args.sites.now) k 0
 
 pub loop-place-preserved : goal.loop-place-preserved
 loop-place-preserved c =
@@ -28,11 +30,15 @@ loop-place-preserved c =
           let written = w.own-is ∙ ap (λ n. set c.loop-place.own (n - 1) (get_or c.args.sites.now i (record { 0 = 0 }))) w.from.ensures in
           record {
             eight = ap length written ∙ length-set _ _ _ ∙ before.eight;
-            placed = subst (Placed c) (sym written) (placed_more c.args.side.now c.requires.pattern c.requires.dentates sites c.loop-place.own c.args.entity i w.in-Holds.dentate w.in-Holds.species _ here before.eight (sym is.1) before.placed);
+            placed = subst (Placed c) (sym written)
+                (placed_more c.args.side.now c.requires.pattern c.requires.dentates sites c.loop-place.own
+                c.args.entity i w.in-Holds.dentate w.in-Holds.species _ here before.eight (sym is.1) before.placed);
           }
       | in-Holds+else-other-entity w ↦ record {
         eight = ap length w.own-is ∙ before.eight;
-        placed = subst (Placed c) (sym w.own-is) (none (λ d p want. w.if-other-entity.false (entity_of (sym (read ∙ w.in-Holds.is) ∙ want))) before.placed);
+        placed = subst (Placed c) (sym w.own-is)
+            (none (λ d p want. w.if-other-entity.false (entity_of (sym (read ∙ w.in-Holds.is) ∙ want)))
+            before.placed);
       }
       | in_default w ↦ record {
         eight = ap length w.own-is ∙ before.eight;

@@ -9,6 +9,8 @@ returns-clause-states c =
     let process = c.args.process.now in
     let is = c.requires.process in
     -- both sides have as many types, and so as many vertices
-    let long = length-numbers c.args.sites.now ∙ c.requires.vertices ∙ sym is.before.pattern.typed ∙ ap length (sym is.types) ∙ is.after.pattern.typed in
+    let long = length-numbers c.args.sites.now ∙ c.requires.vertices ∙ sym is.before.pattern.typed
+    ∙ ap length (sym is.types) ∙ is.after.pattern.typed in
     c.set_side.ensures.states
-    ∙ same_elsewhere process.after (site_numbers c.args.sites.now) c.args.config.now c.clear_side.new.config long c.requires.different c.requires.inside c.clear_side.ensures.count c.clear_side.ensures.elsewhere
+    ∙ same_elsewhere process.after (site_numbers c.args.sites.now) c.args.config.now c.clear_side.new.config long
+    c.requires.different c.requires.inside c.clear_side.ensures.count c.clear_side.ensures.elsewhere

@@ -13,5 +13,6 @@ returns c = record {
   dentates = subst (All (λ d. (1 ≤ d) × (d ≤ 8))) (sym c.requires.dentates) c.requires.some_dentates;
   few_processes = omega (arith, ap length c.new-processes.ensures, c.in_ok-processes.ensures.few);
   processes = subst (λ (ds : List ℕ). AllByRecursion (IsSoundProcess (λ s. slice_index ds s)) c.new-processes.result) (sym c.requires.dentates)
-      (subst (AllByRecursion (IsSoundProcess (λ s. slice_index c.args.dentates.now s))) (sym c.new-processes.ensures) c.in_ok-processes.ensures.sound);
+      (subst (AllByRecursion (IsSoundProcess (λ s. slice_index c.args.dentates.now s))) (sym c.new-processes.ensures)
+      c.in_ok-processes.ensures.sound);
 }

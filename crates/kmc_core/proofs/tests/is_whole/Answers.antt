@@ -8,9 +8,11 @@ use Rattle.kmc_core.proofs.tests.is_whole.Goals as goal
 
 pub loop-vertex-preserved : goal.loop-vertex-preserved
 loop-vertex-preserved c =
-    All-more (IsWholeWant (λ s. slice_index c.args.dentates.now s) c.args.wanted.now) c.args.wanted.now c.loop-vertex.vertex-index Any (omega arith) c.loop-vertex.invariant
+    All-more (IsWholeWant (λ s. slice_index c.args.dentates.now s) c.args.wanted.now) c.args.wanted.now
+    c.loop-vertex.vertex-index Any (omega arith) c.loop-vertex.invariant
     (c.if-not-is_whole_at.ensures refl)
 
 pub returns : goal.returns
 returns c = λ yes.
-    subst (All (IsWholeWant (λ s. slice_index c.args.dentates.now s) c.args.wanted.now)) (take_all c.loop-vertex.vertex-index c.args.wanted.now (omega arith)) c.loop-vertex.invariant
+    subst (All (IsWholeWant (λ s. slice_index c.args.dentates.now s) c.args.wanted.now))
+    (take_all c.loop-vertex.vertex-index c.args.wanted.now (omega arith)) c.loop-vertex.invariant

@@ -8,7 +8,8 @@ pub loop-step-preserved : goal.loop-step-preserved
 loop-step-preserved c = record {
   few = omega (arith, c.in_ok-push.ensures.len);
   sound = subst (All (IsSoundProcess (λ s. slice_index c.args.dentates.now s))) (sym c.in_ok-push.ensures.items)
-      (All-push (IsSoundProcess (λ s. slice_index c.args.dentates.now s)) c.loop-step.processes.items c.in_ok-process.field-0 c.loop-step.invariant.sound c.in_ok-process.ensures);
+      (All-push (IsSoundProcess (λ s. slice_index c.args.dentates.now s)) c.loop-step.processes.items
+      c.in_ok-process.field-0 c.loop-step.invariant.sound c.in_ok-process.ensures);
 }
 
 pub returns-clause-sound : goal.returns-clause-sound

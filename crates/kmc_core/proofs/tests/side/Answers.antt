@@ -7,6 +7,7 @@ use Rattle.kmc_core.proofs.tests.side.Goals as goal
 pub returns-clause-sound : goal.returns-clause-sound
 returns-clause-sound c = record {
   pattern = c.len.ensures.sound;
-  whole = subst (λ (wanted : List Wanted). All (IsWholeWant (λ s. slice_index c.args.dentates.now s) wanted) wanted) (sym (ap (λ p. p.wanted) c.in_ok-side.ensures.pattern))
+  whole = subst (λ (wanted : List Wanted). All (IsWholeWant (λ s. slice_index c.args.dentates.now s) wanted) wanted)
+      (sym (ap (λ p. p.wanted) c.in_ok-side.ensures.pattern))
       (c.if-not-is_whole.ensures refl);
 }

@@ -5,7 +5,11 @@ use Rattle.kmc_run.proofs.ReadLemmas.{distinct_at}
 use Rattle.kmc_run.proofs.joining.book_of.Goals as goal
 
 pub new-requires-clause-gas_differ : goal.new-requires-clause-gas_differ
-new-requires-clause-gas_differ c = distinct_at _ _ (c.in_ok-gas.ensures ∙ ap (λ names. words_of (map (name_at c.args.text.now) names)) c.as_slice.ensures) c.requires.gas.differ
+new-requires-clause-gas_differ c =
+    distinct_at _ _ (c.in_ok-gas.ensures
+    ∙ ap (λ names. words_of (map (name_at c.args.text.now) names)) c.as_slice.ensures) c.requires.gas.differ
 
 pub new-requires-clause-surface_differ : goal.new-requires-clause-surface_differ
-new-requires-clause-surface_differ c = distinct_at _ _ (c.in_ok-surface.ensures ∙ ap (λ names. words_of (map (name_at c.args.text.now) names)) c.as_slice-2.ensures) c.requires.surface.differ
+new-requires-clause-surface_differ c =
+    distinct_at _ _ (c.in_ok-surface.ensures
+    ∙ ap (λ names. words_of (map (name_at c.args.text.now) names)) c.as_slice-2.ensures) c.requires.surface.differ

@@ -12,14 +12,16 @@ pub returns-in_err-go_on_if-clause-value : goal.returns-in_err-go_on_if-clause-v
 returns-in_err-go_on_if-clause-value c =
     let p = err_from_is_err_and c.from_residual.result c.from_residual.ensures.1 in
     let o = c.args.others.now in
-    rw (p.1, p.2) (fails_simulation (values_at c.args.text.now c.args.part.now) c.args.graph o.energetics.now o.mechanism.now c.is_built.result c.in_err-go_on_if.field-0.0
+    rw (p.1, p.2) (fails_simulation (values_at c.args.text.now c.args.part.now) c.args.graph o.energetics.now
+    o.mechanism.now c.is_built.result c.in_err-go_on_if.field-0.0
     c.is_built.ensures c.in_err-go_on_if.ensures.value)
 
 pub returns-in_err-go_on_if-2-clause-value : goal.returns-in_err-go_on_if-2-clause-value
 returns-in_err-go_on_if-2-clause-value c =
     let p = err_from_is_err_and c.from_residual-in_err-go_on_if-2.result c.from_residual-in_err-go_on_if-2.ensures.1 in
     let o = c.args.others.now in
-    rw (p.1, p.2) (fails_energetics (values_at c.args.text.now c.args.part.now) c.args.graph o.energetics.now o.mechanism.now c.is_built.result c.is_energetics.result c.in_err-go_on_if-2.field-0.0
+    rw (p.1, p.2) (fails_energetics (values_at c.args.text.now c.args.part.now) c.args.graph o.energetics.now
+    o.mechanism.now c.is_built.result c.is_energetics.result c.in_err-go_on_if-2.field-0.0
     c.is_built.ensures c.in_ok-go_on_if.ensures.value c.is_energetics.ensures c.in_err-go_on_if-2.ensures.value)
 
 pub returns-in_err-steps-clause-value : goal.returns-in_err-steps-clause-value
@@ -38,7 +40,9 @@ returns-clause-value c =
     let values = values_at c.args.text.now c.args.part.now in
     with_steps values c.args.graph o.energetics.now o.mechanism.now c.is_built.result c.is_energetics.result c.in_ok-book.book
     c.is_built.ensures c.in_ok-go_on_if.ensures.value c.is_energetics.ensures c.in_ok-go_on_if-2.ensures.value c.in_ok-book.ensures
-    ∙ (ap (λ r. and_then r (λ steps. Ok (plain_deck values c.args.graph steps))) c.in_ok-steps.ensures.value ∙ ap Ok (ap (λ steps. plain_deck values c.args.graph (map step_view steps)) (sym c.deref.ensures.value) ∙ sym c.in_ok-join.ensures.value))
+    ∙ (ap (λ r. and_then r (λ steps. Ok (plain_deck values c.args.graph steps))) c.in_ok-steps.ensures.value
+    ∙ ap Ok (ap (λ steps. plain_deck values c.args.graph (map step_view steps)) (sym c.deref.ensures.value)
+    ∙ sym c.in_ok-join.ensures.value))
 
 pub returns-clause-written : goal.returns-clause-written
 returns-clause-written c =

@@ -8,6 +8,9 @@ use Rattle.kmc_run.proofs.joining.join.Goals as goal
 
 pub returns-clause-sound : goal.returns-clause-sound
 returns-clause-sound c =
-    sound_deck (values_at c.args.text.now c.args.part.now) c.args.book c.args.graph (length c.gas_names.result.now) (map step_view c.args.steps.now) c.new.result
-    c.requires.sound c.requires.book (omega (arith, ap length c.gas_names.ensures.names, length-map c.gas_names.result.now (λ name. name.items))) (subst IsLattice c.graph.view_is c.graph.invariant)
+    sound_deck (values_at c.args.text.now c.args.part.now) c.args.book c.args.graph (length c.gas_names.result.now)
+    (map step_view c.args.steps.now) c.new.result
+    c.requires.sound c.requires.book
+    (omega (arith, ap length c.gas_names.ensures.names, length-map c.gas_names.result.now (λ name. name.items)))
+    (subst IsLattice c.graph.view_is c.graph.invariant)
     (omega (arith, c.requires.few_steps, length-map c.args.steps.now step_view)) c.requires.steps (c.new.ensures ∙ c.in_ok-processes.ensures)

@@ -16,13 +16,17 @@ pub returns-in_err-lattice-clause-value : goal.returns-in_err-lattice-clause-val
 unfolding deck_of
 returns-in_err-lattice-clause-value c =
     let p = err_from_is_err_and c.from_residual-in_err-lattice.result c.from_residual-in_err-lattice.ensures.1 in
-    rw (p.1, p.2, c.in_ok-simulation.ensures.bytes) (reads_err (λ (bytes : List ℕ). bytes) (λ deck. deck) c.in_err-lattice.field-0.0 _ _ c.in_err-lattice.ensures.bytes)
+    rw (p.1, p.2, c.in_ok-simulation.ensures.bytes)
+    (reads_err (λ (bytes : List ℕ). bytes) (λ deck. deck) c.in_err-lattice.field-0.0 _ _
+    c.in_err-lattice.ensures.bytes)
 
 pub returns-in_err-energetics-clause-value : goal.returns-in_err-energetics-clause-value
 unfolding deck_of
 returns-in_err-energetics-clause-value c =
     let p = err_from_is_err_and c.from_residual-in_err-energetics.result c.from_residual-in_err-energetics.ensures.1 in
-    rw (p.1, p.2, c.in_ok-simulation.ensures.bytes, c.in_ok-lattice.ensures.bytes) (reads_err (λ (bytes : List ℕ). bytes) (λ deck. deck) c.in_err-energetics.field-0.0 _ _ c.in_err-energetics.ensures.bytes)
+    rw (p.1, p.2, c.in_ok-simulation.ensures.bytes, c.in_ok-lattice.ensures.bytes)
+    (reads_err (λ (bytes : List ℕ). bytes) (λ deck. deck) c.in_err-energetics.field-0.0 _ _
+    c.in_err-energetics.ensures.bytes)
 
 pub returns-in_err-mechanism-clause-value : goal.returns-in_err-mechanism-clause-value
 unfolding deck_of
@@ -41,5 +45,11 @@ returns-in_err-part-clause-value c =
 pub returns-clause-value : goal.returns-clause-value
 unfolding deck_of
 returns-clause-value c =
-    rw (c.in_ok-simulation.ensures.bytes, c.in_ok-lattice.ensures.bytes, c.in_ok-energetics.ensures.bytes, c.in_ok-mechanism.ensures.bytes, c.in_ok-part.ensures.values)
+    rw (
+      c.in_ok-simulation.ensures.bytes,
+      c.in_ok-lattice.ensures.bytes,
+      c.in_ok-energetics.ensures.bytes,
+      c.in_ok-mechanism.ensures.bytes,
+      c.in_ok-part.ensures.values,
+    )
     c.deck_with.ensures.value

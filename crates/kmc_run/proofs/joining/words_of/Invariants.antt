@@ -6,4 +6,6 @@ use Rattle.kmc_run.proofs.joining.words_of.Given as goal
 
 -- the names so far, and those that are left, are all of them
 abbrev pub invariant-loop-name : goal.invariant-loop-name
-invariant-loop-name l = names_of l.words.items ++ words_of (map (name_at l.text) (drop l.name-index l.names)) ≡ words_of (map (name_at l.text) l.names)
+invariant-loop-name l =
+    names_of l.words.items ++ words_of (map (name_at l.text) (drop l.name-index l.names))
+    ≡ words_of (map (name_at l.text) l.names)

@@ -19,7 +19,8 @@ count-is : (lists : List (Vec SiteId Global)) → length (number_lists lists) �
 count-is lists = length-map lists (λ (v : Vec SiteId Global). site_numbers v.items)
 
 -- the list of this turn tells whether the merged one is too long
-told : (c : In_ok-names_too_many) (merged : List (List ℕ)) → AreMerged (number_lists c.args.lists.now) merged → c.in_ok-names_too_many.field-0 ≡ is_long (list_of merged c.loop-list.list-index)
+told : (c : In_ok-names_too_many) (merged : List (List ℕ)) → AreMerged (number_lists c.args.lists.now) merged
+    → c.in_ok-names_too_many.field-0 ≡ is_long (list_of merged c.loop-list.list-index)
 told c merged are =
     let i = c.loop-list.list-index in
     let within : i < length c.args.lists.now = omega arith in
@@ -29,7 +30,8 @@ told c merged are =
 
 -- what the lists from this turn's on tell
 from_here : (c : In_ok-names_too_many) (merged : List (List ℕ)) → AreMerged (number_lists c.args.lists.now) merged
-    → list_any is_long (drop c.loop-list.list-index merged) ≡ (c.in_ok-names_too_many.field-0 || list_any is_long (drop (c.loop-list.list-index + 1) merged))
+    → list_any is_long (drop c.loop-list.list-index merged)
+    ≡ (c.in_ok-names_too_many.field-0 || list_any is_long (drop (c.loop-list.list-index + 1) merged))
 from_here c merged are =
     let i = c.loop-list.list-index in
     let within : i < length merged = omega (arith, are.same_length, count-is c.args.lists.now) in
@@ -38,12 +40,15 @@ from_here c merged are =
 pub returns-then-branch : goal.returns-then-branch
 returns-then-branch c merged are =
     let at = (goal.at.returns-then-branch c).In_ok-names_too_many in
-    sym (sym (c.loop-list.invariant merged are) ∙ from_here at merged are ∙ ap (λ b. b || list_any is_long (drop (c.loop-list.list-index + 1) merged)) c.if-branch.true)
+    sym (sym (c.loop-list.invariant merged are) ∙ from_here at merged are
+    ∙ ap (λ b. b || list_any is_long (drop (c.loop-list.list-index + 1) merged)) c.if-branch.true)
 
 pub loop-list-preserved : goal.loop-list-preserved
 loop-list-preserved c merged are =
     let at = (goal.at.loop-list-preserved c).In_ok-names_too_many in
-    sym (from_here at merged are ∙ ap (λ b. b || list_any is_long (drop (c.loop-list.list-index + 1) merged)) c.if-branch.false) ∙ c.loop-list.invariant merged are
+    sym (from_here at merged are
+    ∙ ap (λ b. b || list_any is_long (drop (c.loop-list.list-index + 1) merged)) c.if-branch.false)
+    ∙ c.loop-list.invariant merged are
 
 pub returns : goal.returns
 returns c merged are =

@@ -16,7 +16,8 @@ use Rattle.lattice_cell.proofs.expand.expand_periodic.Goals as goal
 use Rattle.lattice_cell.proofs.expand.expand_periodic.Goals.{After-new}
 
 -- there is a type for each site
-count-types : (ts : List ℕ) (cell : List ℕ) (count : ℕ) → ts ≡ map (λ s. slice_index cell (s % length cell)) (range_with_len 0 count) → length ts ≡ count
+count-types : (ts : List ℕ) (cell : List ℕ) (count : ℕ)
+    → ts ≡ map (λ s. slice_index cell (s % length cell)) (range_with_len 0 count) → length ts ≡ count
 count-types ts cell count is = ap length is ∙ length-map-range_with_len (λ s. slice_index cell (s % length cell)) 0 count
 
 pub new-requires-clause-same_length : goal.new-requires-clause-same_length
@@ -38,7 +39,9 @@ new-requires-clause-within_limit c =
     omega (arith, count, types.ok.0, c.requires.within_limit)
 
 -- the fault is that of the lists that were made
-is_fault : (c : After-new) → first_fault (neighbour_lists c.args.nx c.args.ny (length c.args.types.now) c.args.joins.now) ≡ first_fault (number_lists c.in_ok-lists.lists.items)
+is_fault : (c : After-new)
+    → first_fault (neighbour_lists c.args.nx c.args.ny (length c.args.types.now) c.args.joins.now)
+    ≡ first_fault (number_lists c.in_ok-lists.lists.items)
 is_fault c = first_fault-same _ _ c.in_ok-lists.ensures.lists
 
 pub returns-clause-sound : goal.returns-clause-sound
@@ -53,8 +56,20 @@ returns-clause-graph c =
     let types = c.in_ok-site_types.site_types in
     let n = c.args.nx * c.args.ny * length c.args.types.now in
     let count = count-types types.items c.args.types.now n c.in_ok-site_types.ensures in
-    let lengths : length types.items ≡ length L = omega (arith, count, c.in_ok-lists.lists.ok.0, c.in_ok-lists.ensures.count, length-map c.in_ok-lists.lists.items (λ (v : Vec SiteId Global). site_numbers v.items)) in
-    let with_types : List ℕ → Lattice = λ ts. record { types = ts; neighbours = neighbour_lists c.args.nx c.args.ny (length c.args.types.now) c.args.joins.now } in
+    let lengths : length types.items ≡ length L =
+    omega (
+      arith,
+      count,
+      c.in_ok-lists.lists.ok.0,
+      c.in_ok-lists.ensures.count,
+      length-map c.in_ok-lists.lists.items (λ (v : Vec SiteId Global). site_numbers v.items),
+    ) in
+    let with_types : List ℕ → Lattice =
+    λ ts. record {
+      types = ts;
+      neighbours = neighbour_lists c.args.nx c.args.ny (length c.args.types.now)
+          c.args.joins.now;
+    } in
     let with_lists : List (List ℕ) → Lattice = λ lists. record { types = types.items; neighbours = lists } in
     IfOk-both c.new.result _ _ _
     (λ g none is. is

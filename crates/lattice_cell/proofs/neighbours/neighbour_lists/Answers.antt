@@ -27,6 +27,12 @@ pub returns-clause-lists : goal.returns-clause-lists
 returns-clause-lists c =
     let r = c.args.repeats in
     let lists = c.loop-join.neighbours.lists in
-    let count : length (number_lists lists.items) ≡ r.nx * r.ny * r.sites = omega (arith, length-map lists.items (λ (v : Vec SiteId Global). site_numbers v.items), lists.ok.0, c.loop-join.invariant.count) in
+    let count : length (number_lists lists.items) ≡ r.nx * r.ny * r.sites =
+    omega (
+      arith,
+      length-map lists.items (λ (v : Vec SiteId Global). site_numbers v.items),
+      lists.ok.0,
+      c.loop-join.invariant.count,
+    ) in
     merged-neighbour_lists r.nx r.ny r.sites c.args.joins.now (number_lists lists.items) count
     (λ s t. c.loop-join.invariant.named s t ∙ joined_by-all r.nx r.ny r.sites c.args.joins.now c.loop-join.join-index s t (omega arith))

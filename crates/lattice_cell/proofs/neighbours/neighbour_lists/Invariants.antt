@@ -7,5 +7,6 @@ use Rattle.lattice_cell.proofs.neighbours.neighbour_lists.Given as goal
 abbrev pub invariant-loop-join : goal.invariant-loop-join
 invariant-loop-join l = record {
   count : vec_len l.neighbours.lists ≡ l.fn.repeats.nx * l.fn.repeats.ny * l.fn.repeats.sites;
-  named : (s t : ℕ) → names l.neighbours.lists.items s t ≡ joined_by l.fn.repeats.nx l.fn.repeats.ny l.fn.repeats.sites (take l.join-index l.fn.joins) s t;
+  named : (s t : ℕ) → names l.neighbours.lists.items s t ≡ joined_by l.fn.repeats.nx l.fn.repeats.ny
+      l.fn.repeats.sites (take l.join-index l.fn.joins) s t;
 }

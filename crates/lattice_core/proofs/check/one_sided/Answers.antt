@@ -9,10 +9,12 @@ list_at-requires c =
 
 pub returns-then-not-has_site : goal.returns-then-not-has_site
 returns-then-not-has_site c =
-    sym (find_site_here (λ t. not (is_listed (list_of (number_lists c.args.lists.now) t) c.args.site.0)) c.args.list.now c.loop-other.other-index (omega arith)
+    sym (find_site_here (λ t. not (is_listed (list_of (number_lists c.args.lists.now) t) c.args.site.0))
+    c.args.list.now c.loop-other.other-index (omega arith)
     (rw (← c.list_at.ensures, ← c.has_site.ensures, c.if-not-has_site.true) refl)) ∙ c.loop-other.invariant
 
 pub loop-other-preserved : goal.loop-other-preserved
 loop-other-preserved c =
-    find_site_later (λ t. not (is_listed (list_of (number_lists c.args.lists.now) t) c.args.site.0)) c.args.list.now c.loop-other.other-index (omega arith)
+    find_site_later (λ t. not (is_listed (list_of (number_lists c.args.lists.now) t) c.args.site.0)) c.args.list.now
+    c.loop-other.other-index (omega arith)
     (rw (← c.list_at.ensures, ← c.has_site.ensures, c.if-not-has_site.false) refl) ∙ c.loop-other.invariant

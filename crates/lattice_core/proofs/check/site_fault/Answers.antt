@@ -15,7 +15,9 @@ has_site-requires c = record { rising = rw c.list_at-list.ensures (c.requires.ri
 pub returns-then-has_bad_site : goal.returns-then-has_bad_site
 returns-then-has_bad_site c =
     let L = number_lists c.args.lists.now in
-    let bad : has_bad_site L c.args.site.0 ≡ true = sym (c.has_bad_site.ensures ∙ has_bad_site-is c.args.lists.now c.args.site.0 _ c.list_at-list.ensures) ∙ c.if-has_bad_site.true in
+    let bad : has_bad_site L c.args.site.0 ≡ true =
+    sym (c.has_bad_site.ensures ∙ has_bad_site-is c.args.lists.now c.args.site.0 _ c.list_at-list.ensures)
+    ∙ c.if-has_bad_site.true in
     sym (fault-bad_site L c.args.site.0 bad)
 
 -- the first test fails
@@ -25,7 +27,9 @@ sound c = sym (c.has_bad_site.ensures ∙ has_bad_site-is c.args.lists.now c.arg
 pub returns-then-has_site : goal.returns-then-has_site
 returns-then-has_site c =
     let L = number_lists c.args.lists.now in
-    let own : has_itself L c.args.site.0 ≡ true = sym (c.has_site.ensures ∙ has_itself-is c.args.lists.now c.args.site.0 _ c.list_at-list.ensures) ∙ c.if-has_site.true in
+    let own : has_itself L c.args.site.0 ≡ true =
+    sym (c.has_site.ensures ∙ has_itself-is c.args.lists.now c.args.site.0 _ c.list_at-list.ensures)
+    ∙ c.if-has_site.true in
     sym (fault-itself L c.args.site.0 (sound (goal.at.returns-then-has_site c).Else-has_bad_site) own)
 
 -- and so does the second
@@ -47,7 +51,8 @@ returns-in_err-other c =
     let L = number_lists c.args.lists.now in
     let s = c.args.site.0 in
     let none_bad = sound at.Else-has_bad_site in
-    let few = sym (has_too_many-is c.args.lists.now s c.list_at-list.result.now c.list_at-list.ensures (c.requires.rising s) none_bad) ∙ le-ltb _ _ c.if-list-gt-MAX_NEIGHBOURS.false in
+    let few = sym (has_too_many-is c.args.lists.now s c.list_at-list.result.now c.list_at-list.ensures
+    (c.requires.rising s) none_bad) ∙ le-ltb _ _ c.if-list-gt-MAX_NEIGHBOURS.false in
     let is = c.one_sided.ensures ∙ one_sided-is c.args.lists.now s c.list_at-list.result.now c.list_at-list.ensures (c.requires.rising s) none_bad in
     let none : one_sided L s ≡ None = sym is ∙ c.in_err-other.was in
     c.from_residual.ensures ∙ sym (fault-one_sided L s none_bad (not_own at.Else-has_site) few ∙ ap (option_map (OneSided s)) none)
@@ -58,7 +63,8 @@ returns c =
     let L = number_lists c.args.lists.now in
     let s = c.args.site.0 in
     let none_bad = sound at.Else-has_bad_site in
-    let few = sym (has_too_many-is c.args.lists.now s c.list_at-list.result.now c.list_at-list.ensures (c.requires.rising s) none_bad) ∙ le-ltb _ _ c.if-list-gt-MAX_NEIGHBOURS.false in
+    let few = sym (has_too_many-is c.args.lists.now s c.list_at-list.result.now c.list_at-list.ensures
+    (c.requires.rising s) none_bad) ∙ le-ltb _ _ c.if-list-gt-MAX_NEIGHBOURS.false in
     let is = c.one_sided.ensures ∙ one_sided-is c.args.lists.now s c.list_at-list.result.now c.list_at-list.ensures (c.requires.rising s) none_bad in
     let some : one_sided L s ≡ Some c.in_ok-other.other = sym is ∙ c.in_ok-other.was in
     sym (fault-one_sided L s none_bad (not_own at.Else-has_site) few ∙ ap (option_map (OneSided s)) some)

@@ -10,7 +10,9 @@ pub at-requires : goal.at-requires
 at-requires g c = All-number (λ s. s < length c.args.config.now) c.args.sites.now c.loop-site.site-index (omega arith) c.requires
 
 -- one more state
-more_read : (states : List State) (ns : List ℕ) (i : ℕ) (before after : List State) (x : State) → i < length ns → before ≡ map (state_at states) (take i ns) → after ≡ before ++ x ∷ [] → x ≡ state_at states (get_or ns i 0) → after ≡ map (state_at states) (take (i + 1) ns)
+more_read : (states : List State) (ns : List ℕ) (i : ℕ) (before after : List State) (x : State) → i < length ns
+    → before ≡ map (state_at states) (take i ns) → after ≡ before ++ x ∷ [] → x ≡ state_at states (get_or ns i 0)
+    → after ≡ map (state_at states) (take (i + 1) ns)
 more_read states ns i before after x within known pushed is =
     rw (pushed, known, is) (sym (map_more (state_at states) ns i 0 within))
 
@@ -20,6 +22,7 @@ loop-site-preserved g c =
     let ns = site_numbers c.args.sites.now in
     let f = state_at c.args.config.now in
     let is = number_of-is c.args.sites.now i (omega arith) in (
-      more_read c.args.config.now ns i c.loop-site.states.items c.push.new.self.items c.at.result is.0 c.loop-site.invariant.0 c.in_ok-push.ensures.items (c.at.ensures.state ∙ ap f (sym is.1)),
+      more_read c.args.config.now ns i c.loop-site.states.items c.push.new.self.items c.at.result is.0
+          c.loop-site.invariant.0 c.in_ok-push.ensures.items (c.at.ensures.state ∙ ap f (sym is.1)),
       omega (arith, c.at.ensures.reads, c.loop-site.invariant.1),
     )

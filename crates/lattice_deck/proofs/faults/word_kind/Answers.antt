@@ -9,5 +9,6 @@ pub returns-in-Joins : goal.returns-in-Joins
 returns-in-Joins c =
     let item = item_at c.args.bytes.now c.args.item.now in
     IfOk-weaker c.joins_kind.result _ _
-    (λ kind told. told item (ap (map (line_at c.args.bytes.now)) (sym c.as_slice-rows.ensures)) ∙ ap (λ f. word_kind c.args.sizes.now f item) (sym c.in-Joins.is))
+    (λ kind told. told item (ap (map (line_at c.args.bytes.now)) (sym c.as_slice-rows.ensures))
+    ∙ ap (λ f. word_kind c.args.sizes.now f item) (sym c.in-Joins.is))
     c.joins_kind.ensures

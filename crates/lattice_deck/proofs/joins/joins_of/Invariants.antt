@@ -8,6 +8,7 @@ use Rattle.lattice_deck.proofs.joins.joins_of.Given as goal
 -- the joins so far, and those of the rows that are left, are those of all
 abbrev pub invariant-loop-row : goal.invariant-loop-row
 invariant-loop-row l = record {
-  value : with_found l.joins.items (joins_of l.sites (map (line_at l.bytes) (drop l.row-index l.rows))) ≡ joins_of l.sites (map (line_at l.bytes) l.rows);
+  value : with_found l.joins.items (joins_of l.sites (map (line_at l.bytes) (drop l.row-index l.rows)))
+      ≡ joins_of l.sites (map (line_at l.bytes) l.rows);
   ends : All (IsInCell l.sites) l.joins.items;
 }

@@ -12,7 +12,9 @@ pub returns-in-East : goal.returns-in-East
 returns-in-East c = ap (is_back c.args.nx c.args.ny) (sym c.in-East.is) ∙ leads c.args.nx c.args.ny c.requires.columns c.requires.rows c.args.toward
 
 pub returns-in-Northeast : goal.returns-in-Northeast
-returns-in-Northeast c = c.is_one_cell.ensures ∙ ap (is_back c.args.nx c.args.ny) (sym c.in-Northeast.is) ∙ leads c.args.nx c.args.ny c.requires.columns c.requires.rows c.args.toward
+returns-in-Northeast c = c.is_one_cell.ensures ∙ ap (is_back c.args.nx c.args.ny) (sym c.in-Northeast.is)
+    ∙ leads c.args.nx c.args.ny c.requires.columns c.requires.rows c.args.toward
 
 pub returns-in-Southeast : goal.returns-in-Southeast
-returns-in-Southeast c = c.is_one_cell-in-Southeast.ensures ∙ ap (is_back c.args.nx c.args.ny) (sym c.in-Southeast.is) ∙ leads c.args.nx c.args.ny c.requires.columns c.requires.rows c.args.toward
+returns-in-Southeast c = c.is_one_cell-in-Southeast.ensures ∙ ap (is_back c.args.nx c.args.ny) (sym c.in-Southeast.is)
+    ∙ leads c.args.nx c.args.ny c.requires.columns c.requires.rows c.args.toward

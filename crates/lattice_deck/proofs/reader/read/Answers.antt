@@ -7,12 +7,14 @@ use Rattle.lattice_deck.proofs.reader.read.Goals as goal
 pub read_block-requires-clause-kind : goal.read_block-requires-clause-kind
 read_block-requires-clause-kind c =
     let block = c.block-item.result in
-    let same = first_of_one (block_at c.args.bytes.now) c.args.shape.now.blocks block c.requires.block c.requires.one (c.block-item.is ∙ ap (λ blocks. get_or blocks 0 block) c.as_slice.ensures) in
+    let same = first_of_one (block_at c.args.bytes.now) c.args.shape.now.blocks block c.requires.block c.requires.one
+    (c.block-item.is ∙ ap (λ blocks. get_or blocks 0 block) c.as_slice.ensures) in
     subst (λ b. IsLatticeKind b.kind) (sym same) (c.requires.lattice refl)
 
 pub read_block-requires-clause-whole : goal.read_block-requires-clause-whole
 read_block-requires-clause-whole c =
     let block = c.block-item.result in
     subst IsWhole
-    (sym (first_of_one (block_at c.args.bytes.now) c.args.shape.now.blocks block c.requires.block c.requires.one (c.block-item.is ∙ ap (λ blocks. get_or blocks 0 block) c.as_slice.ensures)))
+    (sym (first_of_one (block_at c.args.bytes.now) c.args.shape.now.blocks block c.requires.block c.requires.one
+    (c.block-item.is ∙ ap (λ blocks. get_or blocks 0 block) c.as_slice.ensures)))
     c.requires.whole

@@ -3,4 +3,6 @@ use Rattle.lattice_deck.proofs.DefaultWords.{only_memory}
 use Rattle.lattice_deck.proofs.values.named_graph.Goals as goal
 
 pub want_of_memory-requires : goal.want_of_memory-requires
-want_of_memory-requires c = only_memory _ c.in-Err.fault (default_sound c.args.nx c.args.ny c.requires.columns c.requires.rows c.args.kind) c.in-Err.ensures.fault
+want_of_memory-requires c =
+    only_memory _ c.in-Err.fault (default_sound c.args.nx c.args.ny c.requires.columns c.requires.rows c.args.kind)
+    c.in-Err.ensures.fault

@@ -6,4 +6,6 @@ use Rattle.lattice_deck.proofs.values.types_on.Given as goal
 
 -- the names so far, and those that are left, are all of them
 abbrev pub invariant-loop-row : goal.invariant-loop-row
-invariant-loop-row l = (text : List ℕ) → map (name_at text) l.names.items ++ map type_on (map (line_at text) (drop l.row-index l.rows)) ≡ map type_on (map (line_at text) l.rows)
+invariant-loop-row l =
+    (text : List ℕ) → map (name_at text) l.names.items ++ map type_on (map (line_at text) (drop l.row-index l.rows))
+    ≡ map type_on (map (line_at text) l.rows)

@@ -12,23 +12,33 @@ use Rattle.pattern_list.proofs.code.decode.Goals as goal
 pub loop-place-init : goal.loop-place-init
 loop-place-init c = record {
   long = search rules;
-  agrees = λ process sites is. anchor-agrees c.args.graph.now c.args.pattern.now c.args.code process (c.anchor_in_code.result.0 ∷ 0 ∷ 0 ∷ 0 ∷ 0 ∷ 0 ∷ 0 ∷ 0 ∷ []) sites c.len.ensures.lattice c.len-place-end.ensures.sound c.anchor_in_code.ensures is;
+  agrees = λ process sites is. anchor-agrees c.args.graph.now c.args.pattern.now c.args.code process
+      (c.anchor_in_code.result.0 ∷ 0 ∷ 0 ∷ 0 ∷ 0 ∷ 0 ∷ 0 ∷ 0 ∷ []) sites c.len.ensures.lattice
+      c.len-place-end.ensures.sound c.anchor_in_code.ensures is;
 }
 
 pub at_slot-requires : goal.at_slot-requires
 at_slot-requires c =
     let count = c.len-place-end.ensures.value in
     let test = c.loop-place-test.true in
-    let next = next-site c.args.graph.now c.args.pattern.now c.args.code c.requires.0 (site_numbers c.loop-place.sites) c.requires.1 c.loop-place.place c.parent_of.result c.site_of-parent.result.0 c.slot_in_code.result c.len.ensures.lattice c.len-place-end.ensures.sound c.requires.2 c.loop-place.auto.place (omega arith)
-    (c.loop-place.invariant.agrees c.requires.0 c.requires.1 c.requires.2) c.site_of-parent.ensures c.parent_of.ensures.value c.slot_in_code.ensures in
+    let next = next-site c.args.graph.now c.args.pattern.now c.args.code c.requires.0
+    (site_numbers c.loop-place.sites) c.requires.1 c.loop-place.place c.parent_of.result c.site_of-parent.result.0
+    c.slot_in_code.result c.len.ensures.lattice c.len-place-end.ensures.sound c.requires.2 c.loop-place.auto.place
+    (omega arith)
+    (c.loop-place.invariant.agrees c.requires.0 c.requires.1 c.requires.2) c.site_of-parent.ensures
+    c.parent_of.ensures.value c.slot_in_code.ensures in
     record { site = next.inside }
 
 pub unwrap-site-requires : goal.unwrap-site-requires
 unwrap-site-requires c =
     let count = c.len-place-end.ensures.value in
     let test = c.loop-place-test.true in
-    let next = next-site c.args.graph.now c.args.pattern.now c.args.code c.requires.0 (site_numbers c.loop-place.sites) c.requires.1 c.loop-place.place c.parent_of.result c.site_of-parent.result.0 c.slot_in_code.result c.len.ensures.lattice c.len-place-end.ensures.sound c.requires.2 c.loop-place.auto.place (omega arith)
-    (c.loop-place.invariant.agrees c.requires.0 c.requires.1 c.requires.2) c.site_of-parent.ensures c.parent_of.ensures.value c.slot_in_code.ensures in
+    let next = next-site c.args.graph.now c.args.pattern.now c.args.code c.requires.0
+    (site_numbers c.loop-place.sites) c.requires.1 c.loop-place.place c.parent_of.result c.site_of-parent.result.0
+    c.slot_in_code.result c.len.ensures.lattice c.len-place-end.ensures.sound c.requires.2 c.loop-place.auto.place
+    (omega arith)
+    (c.loop-place.invariant.agrees c.requires.0 c.requires.1 c.requires.2) c.site_of-parent.ensures
+    c.parent_of.ensures.value c.slot_in_code.ensures in
     some-site c.at_slot.result _ (c.at_slot.ensures.value ∙ next.is)
 
 pub loop-place-preserved : goal.loop-place-preserved
@@ -44,11 +54,14 @@ loop-place-preserved c =
       long = sym (length-numbers c.with_site-sites.result) ∙ ap length with ∙ length-with so_far c.vertex_at.result c.unwrap-site.result.0 ∙ long;
       agrees = λ process sites is.
           let agree = c.loop-place.invariant.agrees process sites is in
-          let next = next-site c.args.graph.now p c.args.code process so_far sites c.loop-place.place c.parent_of.result c.site_of-parent.result.0 c.slot_in_code.result c.len.ensures.lattice c.len-place-end.ensures.sound is c.loop-place.auto.place low
+          let next = next-site c.args.graph.now p c.args.code process so_far sites c.loop-place.place
+          c.parent_of.result c.site_of-parent.result.0 c.slot_in_code.result c.len.ensures.lattice
+          c.len-place-end.ensures.sound is c.loop-place.auto.place low
           agree c.site_of-parent.ensures c.parent_of.ensures.value c.slot_in_code.ensures in
           let site = site-is c.at_slot.result c.unwrap-site.result _ (c.at_slot.ensures.value ∙ next.is) c.unwrap-site.ensures in
           subst (λ xs. AgreeTo p xs sites (c.loop-place.place + 1)) (sym with)
-          (agree-next p so_far sites c.loop-place.place c.vertex_at.result c.unwrap-site.result.0 c.len-place-end.ensures.sound long low c.vertex_at.ensures.value site agree);
+          (agree-next p so_far sites c.loop-place.place c.vertex_at.result c.unwrap-site.result.0
+          c.len-place-end.ensures.sound long low c.vertex_at.ensures.value site agree);
     }
 
 pub returns : goal.returns

@@ -22,22 +22,38 @@ site_of-site-requires-clause-few c =
 
 pub slot_of-requires : goal.slot_of-requires
 slot_of-requires c =
-    let is = is-slot c.args.graph.now c.args.pattern.now (site_numbers c.args.sites.now) c.len.ensures.lattice c.len-2.ensures.sound c.requires.placed c.args.place c.requires.some c.requires.few in
-    record { site = parent-inside c.args.graph.now c.args.pattern.now (site_numbers c.args.sites.now) c.args.place c.parent_of.result _ is c.site_of-parent.ensures c.parent_of.ensures.value }
+    let is = is-slot c.args.graph.now c.args.pattern.now (site_numbers c.args.sites.now) c.len.ensures.lattice
+    c.len-2.ensures.sound c.requires.placed c.args.place c.requires.some c.requires.few in
+    record {
+      site = parent-inside c.args.graph.now c.args.pattern.now (site_numbers c.args.sites.now) c.args.place
+          c.parent_of.result _ is c.site_of-parent.ensures c.parent_of.ensures.value;
+    }
 
 pub unwrap-requires : goal.unwrap-requires
 unwrap-requires c =
-    let is = is-slot c.args.graph.now c.args.pattern.now (site_numbers c.args.sites.now) c.len.ensures.lattice c.len-2.ensures.sound c.requires.placed c.args.place c.requires.some c.requires.few in
-    ap is_some (slot-looked c.args.graph.now c.args.pattern.now (site_numbers c.args.sites.now) c.args.place c.parent_of.result _ c.vertex_at.result _ c.slot_of.result is c.site_of-parent.ensures c.parent_of.ensures.value c.site_of-site.ensures c.vertex_at.ensures.value c.slot_of.ensures.value)
+    let is = is-slot c.args.graph.now c.args.pattern.now (site_numbers c.args.sites.now) c.len.ensures.lattice
+    c.len-2.ensures.sound c.requires.placed c.args.place c.requires.some c.requires.few in
+    ap is_some (slot-looked c.args.graph.now c.args.pattern.now (site_numbers c.args.sites.now) c.args.place
+    c.parent_of.result _ c.vertex_at.result _ c.slot_of.result is c.site_of-parent.ensures
+    c.parent_of.ensures.value c.site_of-site.ensures c.vertex_at.ensures.value c.slot_of.ensures.value)
 
 pub returns-clause-value : goal.returns-clause-value
 returns-clause-value c =
-    let is = is-slot c.args.graph.now c.args.pattern.now (site_numbers c.args.sites.now) c.len.ensures.lattice c.len-2.ensures.sound c.requires.placed c.args.place c.requires.some c.requires.few in
-    same_Some _ _ (sym c.unwrap.ensures ∙ slot-looked c.args.graph.now c.args.pattern.now (site_numbers c.args.sites.now) c.args.place c.parent_of.result _ c.vertex_at.result _ c.slot_of.result is c.site_of-parent.ensures c.parent_of.ensures.value c.site_of-site.ensures c.vertex_at.ensures.value c.slot_of.ensures.value)
+    let is = is-slot c.args.graph.now c.args.pattern.now (site_numbers c.args.sites.now) c.len.ensures.lattice
+    c.len-2.ensures.sound c.requires.placed c.args.place c.requires.some c.requires.few in
+    same_Some _ _ (sym c.unwrap.ensures
+    ∙ slot-looked c.args.graph.now c.args.pattern.now (site_numbers c.args.sites.now) c.args.place
+    c.parent_of.result _ c.vertex_at.result _ c.slot_of.result is c.site_of-parent.ensures
+    c.parent_of.ensures.value c.site_of-site.ensures c.vertex_at.ensures.value c.slot_of.ensures.value)
 
 pub returns-clause-few : goal.returns-clause-few
 returns-clause-few c =
-    let is = is-slot c.args.graph.now c.args.pattern.now (site_numbers c.args.sites.now) c.len.ensures.lattice c.len-2.ensures.sound c.requires.placed c.args.place c.requires.some c.requires.few in
+    let is = is-slot c.args.graph.now c.args.pattern.now (site_numbers c.args.sites.now) c.len.ensures.lattice
+    c.len-2.ensures.sound c.requires.placed c.args.place c.requires.some c.requires.few in
     let small = is.small in
-    let same = same_Some _ _ (sym c.unwrap.ensures ∙ slot-looked c.args.graph.now c.args.pattern.now (site_numbers c.args.sites.now) c.args.place c.parent_of.result _ c.vertex_at.result _ c.slot_of.result is c.site_of-parent.ensures c.parent_of.ensures.value c.site_of-site.ensures c.vertex_at.ensures.value c.slot_of.ensures.value) in
+    let same = same_Some _ _
+    (sym c.unwrap.ensures
+    ∙ slot-looked c.args.graph.now c.args.pattern.now (site_numbers c.args.sites.now) c.args.place
+    c.parent_of.result _ c.vertex_at.result _ c.slot_of.result is c.site_of-parent.ensures
+    c.parent_of.ensures.value c.site_of-site.ensures c.vertex_at.ensures.value c.slot_of.ensures.value) in
     omega arith

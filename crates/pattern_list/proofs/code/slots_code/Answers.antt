@@ -17,7 +17,8 @@ overflow_add-code c =
     let count = c.len-place-end.ensures.value in
     let test = c.loop-place-test.true in
     let below = slots-below c.args.graph.now p sites c.len.ensures.lattice c.len-place-end.ensures.sound c.requires in
-    let fits = (digit-added (slot_at c.args.graph.now p sites) c.loop-place.place (vertex_count p) c.loop-place.code _ c.from.result (omega arith) (c.from.ensures ∙ c.slot_at.ensures.value) c.loop-place.invariant below).fits in
+    let fits = (digit-added (slot_at c.args.graph.now p sites) c.loop-place.place (vertex_count p) c.loop-place.code _
+    c.from.result (omega arith) (c.from.ensures ∙ c.slot_at.ensures.value) c.loop-place.invariant below).fits in
     omega arith
 
 pub loop-place-preserved : goal.loop-place-preserved
@@ -28,10 +29,12 @@ loop-place-preserved c =
     let test = c.loop-place-test.true in
     let low = c.loop-place.auto.place in
     let below = slots-below c.args.graph.now p sites c.len.ensures.lattice c.len-place-end.ensures.sound c.requires in
-    (digit-added (slot_at c.args.graph.now p sites) c.loop-place.place (vertex_count p) c.loop-place.code _ c.from.result (omega arith) (c.from.ensures ∙ c.slot_at.ensures.value) c.loop-place.invariant below).left
+    (digit-added (slot_at c.args.graph.now p sites) c.loop-place.place (vertex_count p) c.loop-place.code _
+    c.from.result (omega arith) (c.from.ensures ∙ c.slot_at.ensures.value) c.loop-place.invariant below).left
 
 pub returns-clause-below : goal.returns-clause-below
 returns-clause-below c =
-    let below = slots-below c.args.graph.now c.args.pattern.now (site_numbers c.args.sites.now) c.len.ensures.lattice c.len-place-end.ensures.sound c.requires in
+    let below = slots-below c.args.graph.now c.args.pattern.now (site_numbers c.args.sites.now) c.len.ensures.lattice
+    c.len-place-end.ensures.sound c.requires in
     let whole : c.loop-place.code + _ ≡ _ = c.loop-place.invariant in
     omega arith

@@ -8,4 +8,5 @@ use Rattle.pattern_list.proofs.code.slots_code.Given as goal
 -- the slots of the places that are left complete the code
 abbrev pub invariant-loop-place : goal.invariant-loop-place
 invariant-loop-place l =
-    l.code + tail (slot_at l.graph l.pattern (site_numbers l.sites)) l.place (vertex_count l.pattern - l.place) ≡ slots_code l.graph l.pattern (site_numbers l.sites)
+    l.code + tail (slot_at l.graph l.pattern (site_numbers l.sites)) l.place (vertex_count l.pattern - l.place)
+    ≡ slots_code l.graph l.pattern (site_numbers l.sites)

@@ -10,13 +10,17 @@ pub returns-then-closes-clause-value : goal.returns-then-closes-clause-value
 returns-then-closes-clause-value c =
     let left : 16 - c.loop.counter ≡ 16 - (c.loop.counter + 1) + 1 = omega arith in
     subst (λ o. Finds (λ steps. map step_view steps.items) c.closed.result o)
-    (sym (ends_closed (map step_view c.loop.steps.items) (16 - c.loop.counter) (16 - (c.loop.counter + 1)) c.args.book.now (lines_of c.loop.rest.now) (steps_from 16 c.args.book.now (lines_of c.args.text.now)) left (sym c.closes.ensures ∙ c.if-closes.true) c.loop.invariant.rest))
+    (sym (ends_closed (map step_view c.loop.steps.items) (16 - c.loop.counter) (16 - (c.loop.counter + 1))
+    c.args.book.now (lines_of c.loop.rest.now) (steps_from 16 c.args.book.now (lines_of c.args.text.now)) left
+    (sym c.closes.ensures ∙ c.if-closes.true) c.loop.invariant.rest))
     c.closed.ensures.value
 
 pub returns-in_default-clause-value : goal.returns-in_default-clause-value
 returns-in_default-clause-value c =
     let left : 16 - c.loop.counter ≡ 16 - (c.loop.counter + 1) + 1 = omega arith in
-    fails (map step_view c.loop.steps.items) (16 - c.loop.counter) (16 - (c.loop.counter + 1)) c.args.book.now (lines_of c.loop.rest.now) (steps_from 16 c.args.book.now (lines_of c.args.text.now)) left (sym c.closes.ensures ∙ c.if-closes.false) c.in_default.ensures.value c.loop.invariant.rest
+    fails (map step_view c.loop.steps.items) (16 - c.loop.counter) (16 - (c.loop.counter + 1)) c.args.book.now
+    (lines_of c.loop.rest.now) (steps_from 16 c.args.book.now (lines_of c.args.text.now)) left
+    (sym c.closes.ensures ∙ c.if-closes.false) c.in_default.ensures.value c.loop.invariant.rest
 
 pub loop-preserved : goal.loop-preserved
 loop-preserved c =
@@ -25,7 +29,10 @@ loop-preserved c =
     record {
       rest =
           rw more
-          (goes_on (map step_view c.loop.steps.items) (16 - c.loop.counter) (16 - (c.loop.counter + 1)) c.args.book.now (lines_of c.loop.rest.now) (lines_of c.in-Some.after.now) (step_view c.in-Some.step) (steps_from 16 c.args.book.now (lines_of c.args.text.now)) left (sym c.closes.ensures ∙ c.if-closes.false) c.in-Some.ensures.value c.loop.invariant.rest);
+          (goes_on (map step_view c.loop.steps.items) (16 - c.loop.counter) (16 - (c.loop.counter + 1))
+          c.args.book.now (lines_of c.loop.rest.now) (lines_of c.in-Some.after.now) (step_view c.in-Some.step)
+          (steps_from 16 c.args.book.now (lines_of c.args.text.now)) left
+          (sym c.closes.ensures ∙ c.if-closes.false) c.in-Some.ensures.value c.loop.invariant.rest);
       few = omega (arith, c.loop.invariant.few, ap length c.in_ok-push.ensures.items, length-append c.loop.steps.items (c.in-Some.step ∷ []));
       plain = rw more (all_plain_push _ _ (step_view c.in-Some.step) c.loop.invariant.plain c.in-Some.ensures.plain);
     }
@@ -33,5 +40,7 @@ loop-preserved c =
 pub returns-clause-value : goal.returns-clause-value
 returns-clause-value c =
     subst (λ o. Finds (λ steps. map step_view steps.items) c.closed-2.result o)
-    (sym (ends_full (map step_view c.loop.steps.items) (16 - c.loop.counter) c.args.book.now (lines_of c.loop.rest.now) (steps_from 16 c.args.book.now (lines_of c.args.text.now)) (omega arith) c.loop.invariant.rest))
+    (sym (ends_full (map step_view c.loop.steps.items) (16 - c.loop.counter) c.args.book.now
+    (lines_of c.loop.rest.now) (steps_from 16 c.args.book.now (lines_of c.args.text.now)) (omega arith)
+    c.loop.invariant.rest))
     c.closed-2.ensures.value

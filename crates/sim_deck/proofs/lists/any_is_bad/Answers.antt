@@ -11,5 +11,6 @@ pub returns : goal.returns
 returns c =
     let text = c.args.bytes.now in
     let found : c.any.result ≡ list_any (λ name. is_bad_name (bytes_at text name)) c.args.names.now =
-    any_from_yields_List (λ name. is_bad_name (bytes_at text name)) _ _ c.any.result c.any.ensures.ran (YieldsList-from_slice c.args.names.now cc) (λ x b q k. search (rules, tests)) in
+    any_from_yields_List (λ name. is_bad_name (bytes_at text name)) _ _ c.any.result c.any.ensures.ran
+    (YieldsList-from_slice c.args.names.now cc) (λ x b q k. search (rules, tests)) in
     found ∙ sym (list_any-map is_bad_name (bytes_at text) c.args.names.now)

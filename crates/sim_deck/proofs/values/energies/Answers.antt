@@ -15,7 +15,8 @@ loop-word-preserved c =
     let items = simp to_z-of_z at c.in_ok-push.ensures.items in
     record {
       done =
-          more_mapped energy_of (bytes_at c.args.bytes.now) c.loop-word.all.items c.push.new.self.items c.args.words.now c.loop-word.word-index c.energy_of.result _
+          more_mapped energy_of (bytes_at c.args.bytes.now) c.loop-word.all.items c.push.new.self.items
+          c.args.words.now c.loop-word.word-index c.energy_of.result _
           (omega arith) items (c.energy_of.ensures.value ∙ ap energy_of c.bytes.ensures)
           ∙ c.loop-word.invariant.done;
       range =

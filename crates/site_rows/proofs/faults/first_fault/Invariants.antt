@@ -9,6 +9,7 @@ use Rattle.site_rows.proofs.faults.first_fault.Given as goal
 abbrev pub invariant-loop-line : goal.invariant-loop-line
 invariant-loop-line l = record {
   above : HasSitesOf (rows_of (map (line_at l.bytes) (take l.line-index l.rows))) l.above;
-  rest : fault_below l.sites (rows_of (map (line_at l.bytes) l.rows)) (map (line_at l.bytes) (take l.line-index l.rows)) (map (line_at l.bytes) (drop l.line-index l.rows))
+  rest : fault_below l.sites (rows_of (map (line_at l.bytes) l.rows))
+      (map (line_at l.bytes) (take l.line-index l.rows)) (map (line_at l.bytes) (drop l.line-index l.rows))
       ≡ first_fault l.sites (map (line_at l.bytes) l.rows);
 }

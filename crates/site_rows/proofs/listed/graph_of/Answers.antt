@@ -19,9 +19,13 @@ unreachable-requires c =
     let total = list_total c.in_ok-lists.lists.items c.args.sites c.in_ok-lists.ensures in
     let long : length lists ≡ c.args.sites = c.place_rows.auto.lists ∙ ap length first ∙ total in
     let kept = take_at lists (drop (length lists) c.in_ok-lists.lists.items) c.in_ok-lists.lists.len (omega arith) in
-    let are = c.in_ok-place_rows.ensures.lists (first_lists c.as_mut_slice-2.result.now c.args.sites (ap number_lists first ∙ c.in_ok-lists.ensures)) in
-    let none = none_listed c.args.sites lines (length-map c.args.rows.now (line_at c.args.bytes.now) ∙ c.requires.one_row_each) c.requires.faultless in
-    none-some _ (sym none ∙ ap (λ n. first_fault (map (neighbours_at (rows_of lines)) (range_with_len 0 n))) (sym long) ∙ ap first_fault (sym are ∙ ap number_lists (sym kept)) ∙ c.in-Err.ensures.fault)
+    let are = c.in_ok-place_rows.ensures.lists
+    (first_lists c.as_mut_slice-2.result.now c.args.sites (ap number_lists first ∙ c.in_ok-lists.ensures)) in
+    let none = none_listed c.args.sites lines
+    (length-map c.args.rows.now (line_at c.args.bytes.now) ∙ c.requires.one_row_each) c.requires.faultless in
+    none-some _ (sym none
+    ∙ ap (λ n. first_fault (map (neighbours_at (rows_of lines)) (range_with_len 0 n))) (sym long)
+    ∙ ap first_fault (sym are ∙ ap number_lists (sym kept)) ∙ c.in-Err.ensures.fault)
 
 pub returns : goal.returns
 returns c =
@@ -37,7 +41,8 @@ returns c =
     let kept_types = take_at types (drop (length types) c.in_ok-types.types.items) c.in_ok-types.types.len (omega arith) in
     let kept_lists = take_at lists (drop (length lists) c.in_ok-lists.lists.items) c.in_ok-lists.lists.len (omega arith) in
     let are_types = c.in_ok-place_rows.ensures.types (first_types names c.as_mut_slice.result.now c.args.sites zeros) in
-    let are_lists = c.in_ok-place_rows.ensures.lists (first_lists c.as_mut_slice-2.result.now c.args.sites (ap number_lists first ∙ c.in_ok-lists.ensures)) in
+    let are_lists = c.in_ok-place_rows.ensures.lists
+    (first_lists c.as_mut_slice-2.result.now c.args.sites (ap number_lists first ∙ c.in_ok-lists.ensures)) in
     c.in-Ok.ensures.graph
     ∙ ap (λ ts. lattice_from ts (number_lists (take c.in_ok-lists.lists.len (lists ++ drop (length lists) c.in_ok-lists.lists.items)))) kept_types
     ∙ ap (λ ls. lattice_from types (number_lists ls)) kept_lists

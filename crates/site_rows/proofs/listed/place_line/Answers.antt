@@ -19,7 +19,8 @@ returns-in-Some-clause-types c =
     let within = c.requires.sites row has in
     on_ok_weaker c.place_row.result
     (λ put above new are. subst (λ rows. AreTypes names rows c.place_row.new.types) (sym (rows_of-pushed above line row has))
-    (types_placed names (rows_of above) row c.args.types.now c.place_row.new.types (new row has) within.site.0 within.site.1 put are)) c.place_row.ensures.types
+    (types_placed names (rows_of above) row c.args.types.now c.place_row.new.types (new row has) within.site.0
+    within.site.1 put are)) c.place_row.ensures.types
 
 pub returns-in-Some-clause-lists : goal.returns-in-Some-clause-lists
 returns-in-Some-clause-lists c =
@@ -31,14 +32,19 @@ returns-in-Some-clause-lists c =
     let same = c.requires.same_length in
     on_ok_weaker c.place_row.result
     (λ put above new are. subst (λ rows. AreNeighbours rows c.place_row.new.lists) (sym (rows_of-pushed above line row has))
-    (neighbours_placed (rows_of above) row c.args.lists.now c.place_row.new.lists (new row has) within.site.0 (omega (arith, within.site.1, same)) put are)) c.place_row.ensures.lists
+    (neighbours_placed (rows_of above) row c.args.lists.now c.place_row.new.lists (new row has) within.site.0
+    (omega (arith, within.site.1, same)) put are)) c.place_row.ensures.lists
 
 pub returns-in-None-clause-types : goal.returns-in-None-clause-types
 returns-in-None-clause-types c above new are =
     let text = c.args.bytes.now in
-    subst (λ rows. AreTypes (map (λ name. name.items) c.args.names.now) rows c.args.types.now) (sym (rows_of-none above (line_at text c.args.line.now) (sym (c.in_ok-row.ensures) ∙ ap (option_map (row_at text)) c.in-None.is))) are
+    subst (λ rows. AreTypes (map (λ name. name.items) c.args.names.now) rows c.args.types.now)
+    (sym (rows_of-none above (line_at text c.args.line.now)
+    (sym (c.in_ok-row.ensures) ∙ ap (option_map (row_at text)) c.in-None.is))) are
 
 pub returns-in-None-clause-lists : goal.returns-in-None-clause-lists
 returns-in-None-clause-lists c above new are =
     let text = c.args.bytes.now in
-    subst (λ rows. AreNeighbours rows c.args.lists.now) (sym (rows_of-none above (line_at text c.args.line.now) (sym (c.in_ok-row.ensures) ∙ ap (option_map (row_at text)) c.in-None.is))) are
+    subst (λ rows. AreNeighbours rows c.args.lists.now)
+    (sym (rows_of-none above (line_at text c.args.line.now)
+    (sym (c.in_ok-row.ensures) ∙ ap (option_map (row_at text)) c.in-None.is))) are

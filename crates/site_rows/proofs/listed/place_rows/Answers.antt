@@ -32,6 +32,8 @@ loop-line-preserved c =
     let new = subst (λ lines. IsNewSite (rows_of lines) line) (take-map f i rows) asked.1 in
     let next = sym (taken_more f rows i c.line-item.result c.loop-line-test.true c.line-item.is) in
     record {
-      types = λ first. subst (λ lines. AreTypes names (rows_of lines) c.place_line.new.types) next (c.in_ok-place_line.ensures.types above new (c.loop-line.invariant.types first));
-      lists = λ first. subst (λ lines. AreNeighbours (rows_of lines) c.place_line.new.lists) next (c.in_ok-place_line.ensures.lists above new (c.loop-line.invariant.lists first));
+      types = λ first. subst (λ lines. AreTypes names (rows_of lines) c.place_line.new.types) next
+          (c.in_ok-place_line.ensures.types above new (c.loop-line.invariant.types first));
+      lists = λ first. subst (λ lines. AreNeighbours (rows_of lines) c.place_line.new.lists) next
+          (c.in_ok-place_line.ensures.lists above new (c.loop-line.invariant.lists first));
     }

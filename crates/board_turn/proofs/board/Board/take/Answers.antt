@@ -16,7 +16,8 @@ compare_exchange-seen-requires g c =
     let number = ap (λ m. m.0.number) first in (
       search rules,
       search rules,
-      takes_turn g.B.Parts.is_patch g.B.Parts.done_set _ _ _ c.load-was.new.seat.me c.load-was.result _ c.if-was-ne0.false (ap (λ n. n * 281474976710656 + c.load-was.result) (pass.numbered ∙ sym number))
+      takes_turn g.B.Parts.is_patch g.B.Parts.done_set _ _ _ c.load-was.new.seat.me c.load-was.result _
+          c.if-was-ne0.false (ap (λ n. n * 281474976710656 + c.load-was.result) (pass.numbered ∙ sym number))
           (omega (arith, number, pass.numbered, pass.in_range.0)) (ap (λ m. m.0.holds) first ∙ c.requires.idle),
     )
 
@@ -25,20 +26,31 @@ returns-then-seen-was-clause-busy g c =
     let pass = c.args.pass.now in
     let first = c.load-was.ensures.2 in
     let last = c.compare_exchange-seen.ensures.2 in
-    busy_again pass.seat c.load-was.new.seat c.compare_exchange-seen.new.seat c.load-was.result c.compare_exchange-seen.result first.seat first.learns (last.lost c.if-seen-was.true) last.learns c.if-was-ne0.false
+    busy_again pass.seat c.load-was.new.seat c.compare_exchange-seen.new.seat c.load-was.result
+    c.compare_exchange-seen.result first.seat first.learns (last.lost c.if-seen-was.true) last.learns
+    c.if-was-ne0.false
     c.if-seen-was.true (omega (arith, pass.numbered, pass.in_range.0)) c.requires.idle
 
 pub exchange-requires : goal.exchange-requires
-exchange-requires g c = let t = c.compare_exchange-seen.ensures.2.won c.if-seen-was.false in
-    (search rules, (Some t.parts, out_with g.B.Parts.is_patch g.B.Parts.done_set c.load-was.new.seat.me c.compare_exchange-seen.new.seat.me c.compare_exchange-seen.result t))
+exchange-requires g c = let t = c.compare_exchange-seen.ensures.2.won c.if-seen-was.false in (
+  search rules,
+  (
+    Some t.parts,
+    out_with g.B.Parts.is_patch g.B.Parts.done_set c.load-was.new.seat.me
+        c.compare_exchange-seen.new.seat.me c.compare_exchange-seen.result t,
+  ),
+)
 
 pub invariant_of-result : goal.invariant_of-result
 invariant_of-result g c =
     let pass = c.args.pass.now in
     let shown = c.of.result.value in
     let key = c.args.self.now.table.shared.key in
-    let t = taken g.B.Parts.is_patch g.B.Parts.done_set pass.seat.me c.load-was.new.seat.me c.compare_exchange-seen.new.seat.me shown.me c.load-was.result c.compare_exchange-seen.result c.unwrap-parts.result key
-    c.exchange.result c.load-was.ensures.2.seat (c.compare_exchange-seen.ensures.2.won c.if-seen-was.false) c.if-seen-was.false (search rules) (search rules) (search rules) (search rules) c.if-was-ne0.false in
+    let t = taken g.B.Parts.is_patch g.B.Parts.done_set pass.seat.me c.load-was.new.seat.me
+    c.compare_exchange-seen.new.seat.me shown.me c.load-was.result c.compare_exchange-seen.result
+    c.unwrap-parts.result key
+    c.exchange.result c.load-was.ensures.2.seat (c.compare_exchange-seen.ensures.2.won c.if-seen-was.false)
+    c.if-seen-was.false (search rules) (search rules) (search rules) (search rules) c.if-was-ne0.false in
     record {
       shows = ap is_some t.shows;
       patch = on_key (λ k. g.B.Parts.is_patch c.unwrap-parts.result k) shown.me.0.key key t.shows t.patch;

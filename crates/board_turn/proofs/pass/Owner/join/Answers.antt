@@ -8,7 +8,8 @@ join_seat-requires g c = let owner = c.args.self.now in let pass = c.args.pass i
   search rules,
   pass.empty c.requires.idle,
   search rules,
-  gathers g.B.Parts.is_patch g.B.Parts.done_set _ _ owner.seat.me.0 _ pass.seat.me.0 owner.leads pass.follows (omega (arith, pass.numbered, pass.in_range.0)) c.requires.idle,
+  gathers g.B.Parts.is_patch g.B.Parts.done_set _ _ owner.seat.me.0 _ pass.seat.me.0 owner.leads pass.follows
+      (omega (arith, pass.numbered, pass.in_range.0)) c.requires.idle,
 )
 
 pub load-requires : goal.load-requires

@@ -10,7 +10,8 @@ use Rattle.dec_text.proofs.decimal.Decimal.scaled.Goals as goal
 pub returns : goal.returns
 returns c =
     let fields = c.self.inside in
-    let power : to_z w32 (of_z w32 (to_z w32 (of_z w32 fields.power) +ℤ to_z w32 c.args.places)) ≡ fields.power +ℤ pos c.args.places = omega (arith, ints) in
+    let power : to_z w32 (of_z w32 (to_z w32 (of_z w32 fields.power) +ℤ to_z w32 c.args.places))
+    ≡ fields.power +ℤ pos c.args.places = omega (arith, ints) in
     let size : c.rounded-size.result ≡ min PAST (rounded fields.digits (fields.power +ℤ pos c.args.places)) =
     c.rounded-size.ensures ∙ ap (λ p. min PAST (rounded fields.digits p)) power in
     let value : to_z w128 (of_z w128 c.signed.result) ≡ signed fields.negative c.rounded-size.result = omega (arith, ints, c.signed.ensures.value) in

@@ -8,5 +8,6 @@ pub returns : goal.returns
 returns c =
     let line = c.args.self.now.line.number in
     IfOk-weaker c.names_of.result _ _
-    (λ names are text. ap (map (name_at text)) are ∙ names_at text line c.arguments.result.now ∙ ap (map (on_line line)) (c.arguments.ensures.runs text))
+    (λ names are text. ap (map (name_at text)) are ∙ names_at text line c.arguments.result.now
+    ∙ ap (map (on_line line)) (c.arguments.ensures.runs text))
     c.names_of.ensures

@@ -28,13 +28,18 @@ loop-offer-preserved c =
     let is = c.renewed_entry-entry.ensures.value
     ∙ ap (λ (e : Renewal). kept_or (Some e.first.1) (option_copied c.entry_of-entry.result) (fresh e.draws e.event e.first.0 offer)) kept.same
     ∙ ap (λ e. kept_or (Some event.first.1) e (fresh event.draws event.event event.first.0 offer)) at in
-    let whole = subst (λ (os : List (ℕ × Option ℤ)). c.loop-offer.entries ++ renewed event.draws event.event old event.first os ≡ c.args.entries.now ++ renewed event.draws event.event old event.first offers) cut kept.done in
+    let whole = subst (λ (os : List (ℕ × Option ℤ)). c.loop-offer.entries ++ renewed event.draws event.event old
+    event.first os ≡ c.args.entries.now ++ renewed event.draws event.event old event.first offers) cut
+    kept.done in
     record {
-      done = renewed_more event.draws event.event old event.first c.loop-offer.entries c.push.new.self _ _ offer others c.in_ok-push.ensures.ok is whole;
+      done = renewed_more event.draws event.event old event.first c.loop-offer.entries c.push.new.self _ _ offer
+          others c.in_ok-push.ensures.ok is whole;
       same = ap (λ draws. record c.loop-offer.self { draws = draws }) c.renewed_entry-entry.ensures.seed ∙ kept.same;
       rest = c.skip_below-rest.ensures.rising;
       found = found_later old c.loop-offer.rest.now c.skip_below-rest.result.now offer.0 others rising.0 same found.1;
-      later = λ code all. same code (All-from_recursion (λ (o : ℕ × Option ℤ). o.0 ≤ code) offers all i (0, None) (omega arith)) ∙ kept.later code all;
+      later = λ code all. same code
+          (All-from_recursion (λ (o : ℕ × Option ℤ). o.0 ≤ code) offers all i (0, None) (omega arith))
+          ∙ kept.later code all;
       rising = rising.1;
       offers = (subst (AllByRecursion IsOffer) cut kept.offers).1;
     }

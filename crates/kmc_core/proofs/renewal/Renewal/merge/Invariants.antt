@@ -9,7 +9,8 @@ use Rattle.kmc_core.proofs.renewal.Renewal.merge.Given as goal
 -- each code that is not below those of the instances, what is left of the old entries has what all of them have
 abbrev pub invariant-loop-offer : goal.invariant-loop-offer
 invariant-loop-offer l = record {
-  done : l.entries ++ renewed l.fn.self.draws l.fn.self.event l.old l.fn.self.first (drop l.offer-index l.offers) ≡ l.fn.entries ++ renewed l.fn.self.draws l.fn.self.event l.old l.fn.self.first l.offers;
+  done : l.entries ++ renewed l.fn.self.draws l.fn.self.event l.old l.fn.self.first (drop l.offer-index l.offers)
+      ≡ l.fn.entries ++ renewed l.fn.self.draws l.fn.self.event l.old l.fn.self.first l.offers;
   same : l.self ≡ l.fn.self;
   rest : IsRising (codes_of l.rest);
   found : AllByRecursion (λ offer. entry_at offer.0 l.rest ≡ entry_at offer.0 l.old) (drop l.offer-index l.offers);

@@ -28,20 +28,28 @@ loop-number-preserved g c =
     let test = c.loop-number-test.true in
     let items = ap length c.as_slice-process-items.ensures in
     let low : number < length deck.processes = omega arith in
-    let at : get_or deck.processes number process ≡ process = sym (c.process-item.is ∙ ap (λ ps. get_or ps number process) c.as_slice-process-items.ensures) in
-    let all = c.args.entries.now ++ renewed event.draws event.event old event.first (by_code (instances_from deck.temperature deck.graph states 0 deck.processes)) in
+    let at : get_or deck.processes number process ≡ process =
+    sym (c.process-item.is ∙ ap (λ ps. get_or ps number process) c.as_slice-process-items.ensures) in
+    let all = c.args.entries.now ++ renewed event.draws event.event old event.first
+    (by_code (instances_from deck.temperature deck.graph states 0 deck.processes)) in
     let here = instances_of listed.deck.now.temperature listed.deck.now.graph listed.config.now listed.number listed.process.now in
     let later = instances_from deck.temperature deck.graph states (number + 1) (drop (number + 1) deck.processes) in
     let split : instances_from deck.temperature deck.graph states number (drop number deck.processes) ≡ here ++ later
-    = ap (instances_from deck.temperature deck.graph states number) (drop_more deck.processes number process low ∙ ap (λ p. p ∷ drop (number + 1) deck.processes) at)
-    ∙ ap (λ offers. offers ++ later) (own-instances listed deck states number process c.new-listed.ensures.deck c.new-listed.ensures.configuration own c.new-listed.ensures.process) in
-    let more = added-alike c.loop-number.self event entries c.renew_process.new.entries rest (by_code here) (by_code here) kept.same refl c.in_ok-rest.ensures.value in
+    = ap (instances_from deck.temperature deck.graph states number)
+    (drop_more deck.processes number process low ∙ ap (λ p. p ∷ drop (number + 1) deck.processes) at)
+    ∙ ap (λ offers. offers ++ later)
+    (own-instances listed deck states number process c.new-listed.ensures.deck c.new-listed.ensures.configuration
+    own c.new-listed.ensures.process) in
+    let more = added-alike c.loop-number.self event entries c.renew_process.new.entries rest (by_code here)
+    (by_code here) kept.same refl c.in_ok-rest.ensures.value in
     record {
-      done = renewed-part event.draws event.event old rest event.first (listed.number * 2 ^ 55) ((listed.number + 1) * 2 ^ 55) entries c.renew_process.new.entries all here later
+      done = renewed-part event.draws event.event old rest event.first (listed.number * 2 ^ 55)
+          ((listed.number + 1) * 2 ^ 55) entries c.renew_process.new.entries all here later
           (λ code above. kept.found code (omega arith))
           (process-from listed.deck.now is.sound listed.config.now listed.number listed.process.now few is.process fine)
           (process-to listed.deck.now is.sound listed.config.now listed.number listed.process.now few is.process fine)
-          (subst (λ n. AllByRecursion (λ (o : ℕ × Option ℤ). (n + 1) * 2 ^ 55 ≤ o.0) later) (sym own) (processes-from deck c.requires.deck states (number + 1) (omega arith)))
+          (subst (λ n. AllByRecursion (λ (o : ℕ × Option ℤ). (n + 1) * 2 ^ 55 ≤ o.0) later) (sym own)
+          (processes-from deck c.requires.deck states (number + 1) (omega arith)))
           more
           (subst (λ offers. entries ++ renewed event.draws event.event old event.first (by_code offers) ≡ all) split kept.done);
       same = c.renew_process.ensures.same ∙ kept.same;
@@ -57,7 +65,8 @@ returns g c =
     let number = c.loop-number.number in
     let test = c.loop-number-test.false in
     let items = ap length c.as_slice-process-items.ensures in
-    let all = c.args.entries.now ++ renewed event.draws event.event c.args.old.now event.first (by_code (instances_from deck.temperature deck.graph states 0 deck.processes)) in
+    let all = c.args.entries.now ++ renewed event.draws event.event c.args.old.now event.first
+    (by_code (instances_from deck.temperature deck.graph states 0 deck.processes)) in
     let left = instances_from deck.temperature deck.graph states number (drop number deck.processes) in
     none-left event.draws event.event c.args.old.now event.first c.loop-number.entries all left
     (ap (instances_from deck.temperature deck.graph states number) (drop_all number deck.processes (omega arith))) c.loop-number.invariant.done

@@ -14,7 +14,9 @@ loop-anchor-init g c =
     let listed = c.args.listed.now in
     record {
       done = ap (λ offers. c.args.entries.now ++ renewed event.draws event.event c.args.old.now event.first (by_code offers))
-          (all-anchors listed.deck.now.temperature listed.deck.now.graph listed.config.now listed.number listed.process.now (listed-pattern listed c.requires.listed) (site_count listed.deck.now.graph - 0) (omega arith));
+          (all-anchors listed.deck.now.temperature listed.deck.now.graph listed.config.now listed.number
+          listed.process.now (listed-pattern listed c.requires.listed) (site_count listed.deck.now.graph - 0)
+          (omega arith));
       same = refl;
       rest = c.requires.old;
       found = λ code low. refl;
@@ -38,15 +40,20 @@ loop-anchor-preserved g c =
     let count = c.len-anchor-end.ensures.count in
     let test = c.loop-anchor-test.true in
     let low : anchor < end = omega arith in
-    let all = c.args.entries.now ++ renewed event.draws event.event old event.first (by_code (instances_of temperature lattice states number process)) in
+    let all = c.args.entries.now ++ renewed event.draws event.event old event.first
+    (by_code (instances_of temperature lattice states number process)) in
     let here = instances_at temperature lattice states number process anchor in
     let offers = c.fill.new.self.offers.items in
     let are : offers ≡ by_code here = c.in_ok-fill.ensures.value in
     let seen : c.deref.result.now ≡ offers = c.deref.ensures.value in
-    let more = added-alike c.loop-anchor.self event entries c.merge.new.entries rest c.deref.result.now (by_code here) kept.same (seen ∙ are) c.in_ok-rest.ensures.value in
-    let whole = subst (λ anchors. entries ++ renewed event.draws event.event old event.first (by_code (instances_with temperature lattice states number process anchors)) ≡ all) (next-anchor anchor end low) kept.done in
+    let more = added-alike c.loop-anchor.self event entries c.merge.new.entries rest c.deref.result.now (by_code here)
+    kept.same (seen ∙ are) c.in_ok-rest.ensures.value in
+    let whole = subst (λ anchors. entries ++ renewed event.draws event.event old event.first
+    (by_code (instances_with temperature lattice states number process anchors)) ≡ all)
+    (next-anchor anchor end low) kept.done in
     record {
-      done = renewed-part event.draws event.event old rest event.first (number * 2 ^ 55 + anchor * 2 ^ 35) (number * 2 ^ 55 + (anchor + 1) * 2 ^ 35) entries c.merge.new.entries all here
+      done = renewed-part event.draws event.event old rest event.first (number * 2 ^ 55 + anchor * 2 ^ 35)
+          (number * 2 ^ 55 + (anchor + 1) * 2 ^ 35) entries c.merge.new.entries all here
           (instances_with temperature lattice states number process (range_with_len (anchor + 1) (end - (anchor + 1)))) kept.found
           (at-from temperature lattice states number process anchor)
           (at-to temperature lattice states number process c.requires.listed.sound.lattice (listed-pattern listed c.requires.listed) anchor)
@@ -56,7 +63,8 @@ loop-anchor-preserved g c =
       found = λ code above.
           c.in_ok-rest.ensures.later code
           (subst (AllByRecursion (λ (o : ℕ × Option ℤ). o.0 ≤ code)) (sym seen)
-          (all-weaker (λ (o : ℕ × Option ℤ). o.0 < number * 2 ^ 55 + (anchor + 1) * 2 ^ 35) (λ (o : ℕ × Option ℤ). o.0 ≤ code) offers (λ o below. omega arith) c.in_ok-fill.ensures.to))
+          (all-weaker (λ (o : ℕ × Option ℤ). o.0 < number * 2 ^ 55 + (anchor + 1) * 2 ^ 35)
+          (λ (o : ℕ × Option ℤ). o.0 ≤ code) offers (λ o below. omega arith) c.in_ok-fill.ensures.to))
           ∙ kept.found code (omega arith);
     }
 
@@ -73,7 +81,8 @@ returns-clause-value g c =
     let end = site_count lattice in
     let count = c.len-anchor-end.ensures.count in
     let test = c.loop-anchor-test.false in
-    let all = c.args.entries.now ++ renewed event.draws event.event c.args.old.now event.first (by_code (instances_of temperature lattice states number process)) in
+    let all = c.args.entries.now ++ renewed event.draws event.event c.args.old.now event.first
+    (by_code (instances_of temperature lattice states number process)) in
     let left = instances_with temperature lattice states number process (range_with_len anchor (end - anchor)) in
     none-left event.draws event.event c.args.old.now event.first c.loop-anchor.entries all left
     (none-after temperature lattice states number process anchor end (omega arith)) c.loop-anchor.invariant.done

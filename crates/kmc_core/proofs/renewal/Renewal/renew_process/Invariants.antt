@@ -12,7 +12,9 @@ use Rattle.kmc_core.proofs.renewal.Renewal.renew_process.Given as goal
 abbrev pub invariant-loop-anchor : goal.invariant-loop-anchor
 invariant-loop-anchor g l = record {
   done : l.entries ++ renewed l.fn.self.draws l.fn.self.event l.old l.fn.self.first
-      (by_code (instances_with l.listed.deck.now.temperature l.listed.deck.now.graph l.listed.config.now l.listed.number l.listed.process.now (range_with_len l.anchor (site_count l.listed.deck.now.graph - l.anchor))))
+      (by_code (instances_with l.listed.deck.now.temperature l.listed.deck.now.graph l.listed.config.now
+      l.listed.number l.listed.process.now
+      (range_with_len l.anchor (site_count l.listed.deck.now.graph - l.anchor))))
       ≡ l.fn.entries ++ renewed l.fn.self.draws l.fn.self.event l.old l.fn.self.first
       (by_code (instances_of l.listed.deck.now.temperature l.listed.deck.now.graph l.listed.config.now l.listed.number l.listed.process.now));
   same : l.self ≡ l.fn.self;

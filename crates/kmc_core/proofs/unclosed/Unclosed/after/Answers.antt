@@ -14,7 +14,12 @@ fire_code-requires-clause-offered c = (fires_first _ _ _ c.args.first c.args.clo
 pub invariant_of-result : goal.invariant_of-result
 invariant_of-result c =
     let before : (c.closed.inside.event + 1) - 1 ≡ c.closed.inside.event = omega arith in
-    let old : Snapshot (List State) = record { state = c.closed.inside.config; time = c.closed.inside.time; entries = c.closed.inside.lists.current } in
+    let old : Snapshot (List State) =
+    record {
+      state = c.closed.inside.config;
+      time = c.closed.inside.time;
+      entries = c.closed.inside.lists.current;
+    } in
     record {
       old = old;
       closed = subst (λ (n : ℕ). IsClosedAt c.closed.inside.deck n old) (sym before) c.closed.invariant;

@@ -19,7 +19,9 @@ loop-cell-preserved c =
       count = c.in_ok-join.ensures.count ∙ c.loop-cell.invariant.count;
       more = NamesMore-then _ _ _ (λ a b. list_any (g a b) (take cell (range_with_len 0 (r.nx * r.ny)))) _ _
           c.loop-cell.invariant.more c.in_ok-join.ensures.more
-          (λ a b. ap (λ x. list_any (g a b) (take cell (range_with_len 0 (r.nx * r.ny))) || x) (joins_here r.nx r.ny r.sites join cell c.site-s.result c.site-t.result a b c.site-s.ensures.value second)
+          (λ a b. ap (λ x. list_any (g a b) (take cell (range_with_len 0 (r.nx * r.ny))) || x)
+          (joins_here r.nx r.ny r.sites join cell c.site-s.result c.site-t.result a b c.site-s.ensures.value
+          second)
           ∙ any_below_more (g a b) (r.nx * r.ny) cell within);
     }
 

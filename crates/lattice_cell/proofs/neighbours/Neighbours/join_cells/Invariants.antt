@@ -9,6 +9,7 @@ abbrev pub invariant-loop-cell : goal.invariant-loop-cell
 invariant-loop-cell l = record {
   count : vec_len l.self.lists ≡ vec_len l.fn.self.lists;
   more : NamesMore l.fn.self.lists.items l.self.lists.items (λ a b.
-      list_any (λ c. joins_at l.fn.repeats.nx l.fn.repeats.ny l.fn.repeats.sites l.fn.join a b c || joins_at l.fn.repeats.nx l.fn.repeats.ny l.fn.repeats.sites l.fn.join b a c)
+      list_any (λ c. joins_at l.fn.repeats.nx l.fn.repeats.ny l.fn.repeats.sites l.fn.join a b c
+      || joins_at l.fn.repeats.nx l.fn.repeats.ny l.fn.repeats.sites l.fn.join b a c)
       (take l.cell (range_with_len 0 (l.fn.repeats.nx * l.fn.repeats.ny))));
 }

@@ -31,8 +31,11 @@ was_number c = sym (BeginsWith-at _ _ c.loop-place.place c.loop-place.invariant.
 pub neighbours-requires : goal.neighbours-requires
 neighbours-requires c =
     let at = (goal.at.neighbours-requires c).After-index-site in
-    let here : c.loop-place.place < length (site_numbers c.loop-place.self.sites.items) = omega (arith, within at, length-map c.loop-place.self.sites.items (λ (s : SiteId). s.0)) in
-    let inside : c.index-site.result.now.0 < length c.loop-place.self.marks.items = subst (λ n. n < length c.loop-place.self.marks.items) (is_number at) (c.loop-place.self.inside c.loop-place.place 0 here) in
+    let here : c.loop-place.place < length (site_numbers c.loop-place.self.sites.items) =
+    omega (arith, within at, length-map c.loop-place.self.sites.items (λ (s : SiteId). s.0)) in
+    let inside : c.index-site.result.now.0 < length c.loop-place.self.marks.items =
+    subst (λ n. n < length c.loop-place.self.marks.items) (is_number at)
+    (c.loop-place.self.inside c.loop-place.place 0 here) in
     omega (arith, inside, c.loop-place.self.marks.ok.0, c.loop-place.invariant.count, c.requires.count)
 
 pub loop-place-preserved : goal.loop-place-preserved
@@ -43,7 +46,8 @@ loop-place-preserved c =
     let g : ℕ → ℕ → Bool = λ s f. is_listed (neighbours_of c.args.graph.now f) s in
     record {
       count = c.in_ok-visit_all.ensures.count ∙ c.loop-place.invariant.count;
-      adds = Adds-then _ _ _ (λ s. list_any (g s) (take (place - c.args.first) (drop c.args.first xs))) (is_listed (site_numbers c.neighbours.result.now)) _
+      adds = Adds-then _ _ _ (λ s. list_any (g s) (take (place - c.args.first) (drop c.args.first xs)))
+          (is_listed (site_numbers c.neighbours.result.now)) _
           c.loop-place.invariant.adds c.in_ok-visit_all.ensures.adds
           (λ s. ap (λ l. list_any (g s) (take (place - c.args.first) (drop c.args.first xs)) || is_listed l s) c.neighbours.ensures.value
           ∙ any_more (g s) xs c.args.first place c.index-site.result.now.0 c.loop-place.auto.place (early at) (was_number at));
@@ -53,5 +57,13 @@ loop-place-preserved c =
 pub returns-clause-adds : goal.returns-clause-adds
 returns-clause-adds c = λ s.
     let xs = site_numbers c.args.self.now.sites.items in
-    let past : length xs ≤ c.loop-place.place = omega (arith, length-map c.args.self.now.sites.items (λ (s : SiteId). s.0), c.args.self.now.sites.ok.0, c.len-place-end.ensures) in
-    c.loop-place.invariant.adds s ∙ ap (λ l. is_listed xs s || list_any (λ f. is_listed (neighbours_of c.args.graph.now f) s) l) (take_rest_all xs c.args.first c.loop-place.place past)
+    let past : length xs ≤ c.loop-place.place =
+    omega (
+      arith,
+      length-map c.args.self.now.sites.items (λ (s : SiteId). s.0),
+      c.args.self.now.sites.ok.0,
+      c.len-place-end.ensures,
+    ) in
+    c.loop-place.invariant.adds s
+    ∙ ap (λ l. is_listed xs s || list_any (λ f. is_listed (neighbours_of c.args.graph.now f) s) l)
+    (take_rest_all xs c.args.first c.loop-place.place past)

@@ -21,16 +21,32 @@ loop-steps-preserved c =
     let ys = site_numbers c.visit_neighbours.new.self.sites.items in
     let known = c.loop-steps.invariant in
     let did = c.in_ok-visit_neighbours.ensures in
-    let next : length xs ≡ c.len-next.result = omega (arith, length-map c.loop-steps.self.sites.items (λ (s : SiteId). s.0), c.loop-steps.self.sites.ok.0, c.len-next.ensures) in
+    let next : length xs ≡ c.len-next.result =
+    omega (
+      arith,
+      length-map c.loop-steps.self.sites.items (λ (s : SiteId). s.0),
+      c.loop-steps.self.sites.ok.0,
+      c.len-next.ensures,
+    ) in
     record {
       not_past = omega arith;
       count = did.count ∙ known.count;
       reached = reached_more g c.requires.lattice start xs c.loop-steps.steps c.loop-steps.first known.reached known.closed ys did.adds;
-      closed = subst (IsClosed g ys) next (closed_more g c.requires.lattice start xs c.loop-steps.steps c.loop-steps.first known.reached known.closed ys did.front did.adds);
+      closed = subst (IsClosed g ys) next
+          (closed_more g c.requires.lattice start xs c.loop-steps.steps c.loop-steps.first known.reached known.closed
+          ys did.front did.adds);
     }
 
 pub returns-else-first-len-clause-reached : goal.returns-else-first-len-clause-reached
 returns-else-first-len-clause-reached c =
     let xs = site_numbers c.loop-steps.self.sites.items in
-    let all : length xs ≤ c.loop-steps.first = omega (arith, length-map c.loop-steps.self.sites.items (λ (s : SiteId). s.0), c.loop-steps.self.sites.ok.0, c.len.ensures) in
-    reached_all c.args.graph.now c.requires.lattice (site_numbers c.args.self.now.sites.items) xs c.loop-steps.steps c.loop-steps.first c.loop-steps.invariant.reached c.loop-steps.invariant.closed c.args.radius (omega arith) all
+    let all : length xs ≤ c.loop-steps.first =
+    omega (
+      arith,
+      length-map c.loop-steps.self.sites.items (λ (s : SiteId). s.0),
+      c.loop-steps.self.sites.ok.0,
+      c.len.ensures,
+    ) in
+    reached_all c.args.graph.now c.requires.lattice (site_numbers c.args.self.now.sites.items) xs c.loop-steps.steps
+    c.loop-steps.first c.loop-steps.invariant.reached c.loop-steps.invariant.closed c.args.radius (omega arith)
+    all

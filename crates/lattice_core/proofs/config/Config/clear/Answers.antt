@@ -26,17 +26,21 @@ loop-site-preserved c =
     record {
       same_length = ap length c.write.ensures ∙ length-set _ _ _ ∙ c.loop-site.invariant.same_length;
       states = λ s. ap (λ l. state_at l s) c.write.ensures
-          ∙ cleared_step c.loop-site.self c.args.self.now x s (is_listed (take i ns) s) (omega (arith, within, c.loop-site.invariant.same_length)) (c.loop-site.invariant.states s)
+          ∙ cleared_step c.loop-site.self c.args.self.now x s (is_listed (take i ns) s)
+          (omega (arith, within, c.loop-site.invariant.same_length)) (c.loop-site.invariant.states s)
           ∙ ap (λ b. cond b Vacant (state_at c.args.self.now s)) (is_listed-more ns i x s is.0 is.1);
     }
 
 -- all the sites are vacant
-done : (c : After-loop-site) → length c.args.sites.now ≤ c.loop-site.site-index → c.loop-site.self ≡ cleared c.args.self.now (site_numbers c.args.sites.now)
+done : (c : After-loop-site) → length c.args.sites.now ≤ c.loop-site.site-index
+    → c.loop-site.self ≡ cleared c.args.self.now (site_numbers c.args.sites.now)
 done c past =
     let ns = site_numbers c.args.sites.now in
     let long : length ns ≤ c.loop-site.site-index = omega (arith, length-map c.args.sites.now (λ (s : SiteId). s.0)) in
     cleared-is c.args.self.now c.loop-site.self ns c.loop-site.invariant.same_length
-    (λ s. c.loop-site.invariant.states s ∙ ap (λ l. cond (is_listed l s) Vacant (state_at c.args.self.now s)) (take_all c.loop-site.site-index ns long))
+    (λ s. c.loop-site.invariant.states s
+    ∙ ap (λ l. cond (is_listed l s) Vacant (state_at c.args.self.now s))
+    (take_all c.loop-site.site-index ns long))
 
 pub returns-clause-states : goal.returns-clause-states
 returns-clause-states c = done (goal.at.returns-clause-states c).After-loop-site c.loop-site-test.false

@@ -7,6 +7,7 @@ use Rattle.lattice_core.proofs.config.Config.set.Given as goal
 abbrev pub invariant-loop-place : goal.invariant-loop-place
 invariant-loop-place l = record {
   same_length : length l.self ≡ length l.fn.self;
-  states : (s : ℕ) → state_among l.species.0 (slice_index (site_numbers l.sites) 0) (l.place + 1) (drop l.place (site_numbers l.sites)) s (state_at l.self s)
+  states : (s : ℕ) → state_among l.species.0 (slice_index (site_numbers l.sites) 0) (l.place + 1)
+      (drop l.place (site_numbers l.sites)) s (state_at l.self s)
       ≡ state_among l.species.0 (slice_index (site_numbers l.sites) 0) 1 (site_numbers l.sites) s (state_at l.fn.self s);
 }

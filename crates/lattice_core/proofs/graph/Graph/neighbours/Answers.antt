@@ -10,5 +10,6 @@ returns-clause-rising c = rw c.list_at.ensures (rw c.deref.ensures.value (c.self
 
 pub returns-clause-few : goal.returns-clause-few
 returns-clause-few c =
-    let few : length (site_numbers c.list_at.result.now) ≤ MAX_NEIGHBOURS = rw c.list_at.ensures (rw c.deref.ensures.value (c.self.invariant.few c.args.s.0)) in
+    let few : length (site_numbers c.list_at.result.now) ≤ MAX_NEIGHBOURS =
+    rw c.list_at.ensures (rw c.deref.ensures.value (c.self.invariant.few c.args.s.0)) in
     omega (arith, few, length-map c.list_at.result.now (λ (s : SiteId). s.0))

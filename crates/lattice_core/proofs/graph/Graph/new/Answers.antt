@@ -40,7 +40,8 @@ invariant_of-result c =
     let at = (goal.at.invariant_of-result c).After-first_fault in
     let none = first_fault-same _ _ (sorted at) ∙ sym (is_fault at) ∙ c.in-None.is in
     let lengths : length c.args.types.items ≡ length (number_lists c.sort_lists.new.lists) = omega (arith, count-is c.sort_lists.new.lists) in
-    rw (kept at) (lattice-from_sound (number_lists c.sort_lists.new.lists) (sorted at).rising c.args.types.items lengths (omega arith) (omega arith) none)
+    rw (kept at) (lattice-from_sound (number_lists c.sort_lists.new.lists) (sorted at).rising c.args.types.items
+    lengths (omega arith) (omega arith) none)
 
 pub returns-in-None-clause-graph : goal.returns-in-None-clause-graph
 returns-in-None-clause-graph c =

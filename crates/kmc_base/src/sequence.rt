@@ -5,11 +5,11 @@ use std::marker::Model;
 /// A vector that contracts see as the list of its items: neither its place in memory nor its
 /// capacity is part of it.
 #[derive(Debug, Drop)]
-pub struct Items<T> {
+pub struct Sequence<T> {
     items: Vec<T>,
 }
 
-impl<T> Model for Items<T> {
+impl<T> Model for Sequence<T> {
     ghost use Rattle.std.specs.Prelude.{List};
 
     ghost Value = { List T };
@@ -17,12 +17,12 @@ impl<T> Model for Items<T> {
     ghost view = { λ v. v.items.items };
 }
 
-impl<T> Items<T> {
+impl<T> Sequence<T> {
     /// The items of a vector. It takes no memory.
     pub fn new(items: Vec<T>) -> Self
         ensures { result ≡ items.items }
     {
-        Items { items }
+        Sequence { items }
     }
 
     /// The items as a slice.
