@@ -2,6 +2,7 @@ pub mod Bounds
 pub mod DigitLists
 pub mod Filled
 pub mod Fronts
+pub mod LinePlaces
 pub mod Places
 pub mod Powers
 pub mod Printing

@@ -16,37 +16,6 @@ pub word_pushed : (text : List ℕ) (words : List Span) (at stop : ℕ) (left re
 word_pushed text words at stop left rest whole is_left before =
     rw (map_push (run_at text) words (record { start = at; end = stop }), append_assoc, ← is_left) before
 
--- a line is in front of the others, but not one without words
-abbrev with_line : ℕ → List Run → List WordLine → List WordLine
-with_line number words rest = cond (is_filled words) (record { number = number; words = words } ∷ rest) rest
-
--- the same of the lines of a text as the program keeps them
-line_joins : (text : List ℕ) (lines : List Line) (number : ℕ) (spans : List Span) (rest : List WordLine)
-    → map (line_at text) (lines ++ (if is_filled spans then record { number = number; words = spans } ∷ [] else [])) ++ rest
-    ≡ map (line_at text) lines ++ with_line number (map (run_at text) spans) rest
-line_joins text lines number [] rest = rw append-nil refl
-line_joins text lines number (s ∷ ss) rest =
-    rw (map_push (line_at text) lines (record { number = number; words = s ∷ ss }), append_assoc) refl
-
--- the lines so far, this one and those that are still to come
-pub line_pushed : (text : List ℕ) (lines : List Line) (number : ℕ) (words : List Span) (line : Run) (rest : List Run) (left whole : List WordLine)
-    → map (run_at text) words ≡ words_of line → left ≡ lines_from number (line ∷ rest) → map (line_at text) lines ++ left ≡ whole
-    → map (line_at text) (lines ++ (if is_filled words then record { number = number; words = words } ∷ [] else []))
-    ++ lines_from (number + 1) rest ≡ whole
-line_pushed text lines number words line rest left whole is_words is_left before =
-    let next : left ≡ with_line number (map (run_at text) words) (lines_from (number + 1) rest) =
-    is_left ∙ ap (λ ws. with_line number ws (lines_from (number + 1) rest)) (sym is_words) in
-    line_joins text lines number words (lines_from (number + 1) rest) ∙ ap (λ rs. map (line_at text) lines ++ rs) (sym next) ∙ before
-
--- the lines so far and this one lie within the text
-pub within_pushed : (text : List ℕ) (lines : List Line) (number : ℕ) (words : List Span) → All (AreWithin text) lines → All (IsWithin text) words
-    → All (AreWithin text) (lines ++ (if is_filled words then record { number = number; words = words } ∷ [] else []))
-within_pushed text lines number words before inside =
-    ⊎_elim
-    (λ (full : is_filled words ≡ true). rw full (All-push (AreWithin text) lines (record { number = number; words = words }) before inside))
-    (λ (empty : is_filled words ≡ false). rw (empty, append-nil) before)
-    (cases_Bool (is_filled words))
-
 map-bytes : (text : List ℕ) (spans : List Span) → map (bytes_at text) spans ≡ map (λ word. word.bytes) (map (run_at text) spans)
 map-bytes text [] = refl
 map-bytes text (s ∷ ss) = ap (λ rest. bytes_at text s ∷ rest) (map-bytes text ss)

@@ -3,6 +3,7 @@ pub mod Decimals
 pub mod Digits
 pub mod Lines
 pub mod Spans
+pub mod Places
 pub mod Wholes
 pub mod Significands
 pub mod Scaled

@@ -19,7 +19,7 @@ pub use decimal::{Decimal, read_decimal};
 pub use digits::read_whole;
 pub use faults::{DecimalFault, NotWhole, OutOfRange};
 pub use fixed::{print_fixed, printed_reads_back};
-pub use lines::{Line, Span, split};
+pub use lines::{FIRST_LINE, Line, LinePlace, Span, next_line, split};
 
 #[cfg(test)]
 mod tests;

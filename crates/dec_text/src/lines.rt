@@ -1,10 +1,11 @@
-ghost use Rattle.std.specs.Prelude.{◌≡◌, ◌+◌, ◌-◌, ◌^◌, ◌<◌, ◌≤◌, if◌then◌else◌, All, IfOk, OnOk, [], ◌∷◌, ◌++◌, length, map};
+ghost use Rattle.std.specs.Prelude.{◌≡◌, ◌+◌, ◌-◌, ◌^◌, ◌<◌, ◌≤◌, All, IfErr, IfOk, IfSome, length, map};
 ghost use Rattle.std.specs.List.{position, position_or_len, slice_range};
-ghost use Rattle.dec_text.specs.Bytes.{is_blank, is_comment_mark, is_line_feed};
-ghost use Rattle.dec_text.specs.Lines.{filled, is_filled, lines_of, run, runs, word_lines, words_of};
+ghost use Rattle.dec_text.specs.Bytes.{is_blank};
+ghost use Rattle.dec_text.specs.Lines.{filled, lines_of, run, runs, word_lines, words_of};
+ghost use Rattle.dec_text.specs.Places.{IsNextLine, is_cut};
 ghost use Rattle.dec_text.specs.Spans.{AreWithin, IsWithin, line_at, plain_line_at, run_at};
 
-use kmc_base::{Sequence, OutOfMemory};
+use kmc_base::{OutOfMemory, Sequence};
 use std::alloc::Global;
 
 /// The place of a word in a text, by its bytes counted from 0.
@@ -39,6 +40,45 @@ pub struct Line {
     pub words: Sequence<Span>,
 }
 
+/// The place of a line in a text.
+#[derive(Clone, Copy, Debug, PartialEq, Eq)]
+pub struct LinePlace {
+    /// The place of its first byte, counted from 0.
+    pub start: usize,
+    /// Its number, counted from 1.
+    pub number: u32,
+}
+
+/// The place of a text's first line.
+pub const FIRST_LINE: LinePlace = LinePlace {
+    start: 0,
+    number: 1,
+};
+
+/// What ends a piece of a text.
+#[derive(Clone, Copy)]
+enum Cut {
+    /// The end of a line.
+    LineFeed,
+    /// The beginning of a comment.
+    CommentMark,
+    /// What separates words.
+    Blank,
+}
+
+impl Cut {
+    /// Whether a byte is such an end.
+    fn is(self, byte: u8) -> bool
+        ensures { result ≡ is_cut self byte }
+    {
+        match self {
+            Cut::LineFeed => byte == b'\n',
+            Cut::CommentMark => byte == b'#',
+            Cut::Blank => matches!(byte, b' ' | b'\t' | b'\r' | b'\n'),
+        }
+    }
+}
+
 /// Gives the lines of a text that have a word, in order, with the place of each word.
 ///
 /// Lines end at LF; a last piece that is empty is no line. From the first `#` of a line on it is a
@@ -51,29 +91,52 @@ pub fn split(alloc: Global, bytes: &[u8]) -> Result<Vec<Line>, OutOfMemory>
     ensures within { IfOk result (λ lines. All (AreWithin bytes.now) lines.items) }
 {
     let mut lines = Vec::new(alloc);
-    let mut start = 0;
-    let mut number = 1u32;
-    while start < bytes.len() {
-        let end = line_end(bytes, start, bytes.len());
-        let words = split_line(alloc, bytes, start, end)?;
-        push_line(&mut lines, number, words)?;
-        number += 1;
-        start = end + 1;
+    let mut place = FIRST_LINE;
+    while let Some(line) = next_line(alloc, bytes, &mut place)? {
+        lines.push(line)?;
     }
     Ok(lines)
 }
 
-/// Appends a line, but not one without words.
-fn push_line(lines: &mut Vec<Line>, number: u32, words: Vec<Span>) -> Result<(), OutOfMemory>
-    ensures { OnOk result (lines.new.items ≡ lines.old.items ++ (if is_filled words.items then record { number = number; words = words.items } ∷ [] else [])) }
+/// Gives the next line that has a word, from a place on, and moves the place below that line. There is
+/// no such line where the answer is `None`.
+///
+/// The lines and words are those of `split`, and the first place is `FIRST_LINE`. A text can be read
+/// this way with the memory of one line.
+///
+/// # Errors
+///
+/// Where memory is refused, the place is as it was.
+pub fn next_line(
+    alloc: Global,
+    bytes: &[u8],
+    place: &mut LinePlace,
+) -> Result<Option<Line>, OutOfMemory>
+    requires short { length bytes.now < 2 ^ 32 - 1 }
+    requires counted { place.old.number ≤ place.old.start + 1 }
+    ensures line { IfOk result (IsNextLine bytes.now place.old place.new) }
+    ensures within { IfOk result (λ line. IfSome line (AreWithin bytes.now)) }
+    ensures counted { place.new.number ≤ place.new.start + 1 }
+    ensures err { IfErr result (λ _. place.new ≡ place.old) }
 {
-    if !words.is_empty() {
-        lines.push(Line {
-            number,
-            words: Sequence::new(words),
-        })?;
+    let mut at = *place;
+    while at.start < bytes.len() {
+        let end = first_cut(bytes, at.start, bytes.len(), Cut::LineFeed);
+        let words = split_line(alloc, bytes, at.start, end)?;
+        let number = at.number;
+        at = LinePlace {
+            start: end + 1,
+            number: number + 1,
+        };
+        if !words.is_empty() {
+            *place = at;
+            return Ok(Some(Line {
+                number,
+                words: Sequence::new(words),
+            }));
+        }
     }
-    Ok(())
+    Ok(None)
 }
 
 /// The words of the line that begins at `start` and ends before `end`.
@@ -88,7 +151,12 @@ fn split_line(
     ensures words { IfOk result (λ words. map (run_at bytes.now) words.items ≡ words_of (run start (slice_range bytes.now start end))) }
     ensures within { IfOk result (λ words. All (IsWithin bytes.now) words.items) }
 {
-    split_words(alloc, bytes, start, comment_start(bytes, start, end))
+    split_words(
+        alloc,
+        bytes,
+        start,
+        first_cut(bytes, start, end, Cut::CommentMark),
+    )
 }
 
 /// The runs of bytes between blanks, from `start` on and before `end`.
@@ -106,7 +174,7 @@ fn split_words(
     let mut words = Vec::new(alloc);
     let mut at = start;
     while at < end {
-        let stop = word_end(bytes, at, end);
+        let stop = first_cut(bytes, at, end, Cut::Blank);
         if at < stop {
             words.push(Span {
                 start: at,
@@ -118,66 +186,21 @@ fn split_words(
     Ok(words)
 }
 
-/// The first LF from `start` on, or `end`.
-fn line_end(bytes: &[u8], start: usize, end: usize) -> usize
+/// The place of the first such end from `start` on, or `end`.
+fn first_cut(bytes: &[u8], start: usize, end: usize, cut: Cut) -> usize
     requires ordered { start ≤ end }
     requires inside { end ≤ length bytes.now }
-    ensures place { result ≡ start + position_or_len is_line_feed (slice_range bytes.now start end) }
+    ensures place { result ≡ start + position_or_len (is_cut cut) (slice_range bytes.now start end) }
     ensures inside { result ≤ end }
 {
-    match first_line_feed(&bytes[start..end]) {
+    match position_of(&bytes[start..end], cut) {
         Some(place) => start + place,
         None => end,
     }
 }
 
-/// The first `#` from `start` on, or `end`.
-fn comment_start(bytes: &[u8], start: usize, end: usize) -> usize
-    requires ordered { start ≤ end }
-    requires inside { end ≤ length bytes.now }
-    ensures place { result ≡ start + position_or_len is_comment_mark (slice_range bytes.now start end) }
-    ensures inside { result ≤ end }
+fn position_of(bytes: &[u8], cut: Cut) -> Option<usize>
+    ensures { result ≡ position (is_cut cut) bytes.now }
 {
-    match first_comment_mark(&bytes[start..end]) {
-        Some(place) => start + place,
-        None => end,
-    }
-}
-
-/// The first blank from `start` on, or `end`.
-fn word_end(bytes: &[u8], start: usize, end: usize) -> usize
-    requires ordered { start ≤ end }
-    requires inside { end ≤ length bytes.now }
-    ensures place { result ≡ start + position_or_len is_blank (slice_range bytes.now start end) }
-    ensures inside { result ≤ end }
-{
-    match first_blank(&bytes[start..end]) {
-        Some(place) => start + place,
-        None => end,
-    }
-}
-
-fn first_line_feed(bytes: &[u8]) -> Option<usize>
-    ensures { result ≡ position is_line_feed bytes.now }
-{
-    bytes.iter().position(|b| *b == b'\n')
-}
-
-fn first_comment_mark(bytes: &[u8]) -> Option<usize>
-    ensures { result ≡ position is_comment_mark bytes.now }
-{
-    bytes.iter().position(|b| *b == b'#')
-}
-
-fn first_blank(bytes: &[u8]) -> Option<usize>
-    ensures { result ≡ position is_blank bytes.now }
-{
-    bytes.iter().position(|b| is_blank(*b))
-}
-
-/// Whether a byte stands between words.
-fn is_blank(byte: u8) -> bool
-    ensures { result ≡ is_blank byte }
-{
-    matches!(byte, b' ' | b'\t' | b'\r' | b'\n')
+    bytes.iter().position(|byte| cut.is(*byte))
 }

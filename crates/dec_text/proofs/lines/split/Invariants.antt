@@ -1,18 +1,15 @@
-use Rattle.std.proofs.Common.{◌≡◌, ◌≤◌, ◌+◌, ◌-◌, ◌++◌, All, map, length}
-use Rattle.std.specs.List.{slice_range}
-use Rattle.dec_text.specs.Bytes.{is_line_feed}
-use Rattle.dec_text.specs.Lines.{lines_from, runs, word_lines}
+use Rattle.std.proofs.Common.{◌≡◌, ◌≤◌, ◌+◌, ◌++◌, All, map, length}
+use Rattle.dec_text.specs.Lines.{word_lines}
+use Rattle.dec_text.specs.Places.{lines_below}
 use Rattle.dec_text.specs.Spans.{AreWithin, line_at}
 use Rattle.dec_text.proofs.lines.split.Given as goal
 
-abbrev pub invariant-loop-start : goal.invariant-loop-start
-invariant-loop-start l = record {
-  lines : map (line_at l.bytes) l.lines.items ++ lines_from l.number (runs is_line_feed l.start (slice_range l.bytes l.start (length l.bytes)))
-      ≡ word_lines l.bytes;
+abbrev pub invariant-loop-lines : goal.invariant-loop-lines
+invariant-loop-lines l = record {
+  lines : map (line_at l.bytes) l.lines.items ++ lines_below l.bytes l.place ≡ word_lines l.bytes;
   within : All (AreWithin l.bytes) l.lines.items;
-  start_in : l.start ≤ length l.bytes + 1;
-  number_in : l.number ≤ l.start + 1;
+  counted : l.place.number ≤ l.place.start + 1;
 }
 
-abbrev pub decreases-loop-start : goal.decreases-loop-start
-decreases-loop-start l = length l.bytes - l.start
+abbrev pub decreases-loop-lines : goal.decreases-loop-lines
+decreases-loop-lines l = length (lines_below l.bytes l.place)

@@ -13,14 +13,14 @@ loop-at-preserved c =
     elim c.if-at-stop.branch [
       | then-at-stop+in_ok-push w ↦ rw (w.words-is, w.in_ok-push.ensures.items) (record {
         words = word_pushed _ _ _ _ _ _ _
-            (next_word is_blank c.args.bytes.now c.loop-at.at c.args.end c.word_end-stop.result before
-            c.requires.inside c.word_end-stop.ensures.place w.if-at-stop.true)
+            (next_word is_blank c.args.bytes.now c.loop-at.at c.args.end c.first_cut-stop.result before
+            c.requires.inside c.first_cut-stop.ensures.place w.if-at-stop.true)
             c.loop-at.invariant.words;
         within = All-push (IsWithin c.args.bytes.now) _ _ c.loop-at.invariant.within (record { filled = w.if-at-stop.true; inside = omega arith });
       })
       | else-at-stop w ↦ rw w.words-is (record {
-        words = rw (← no_word is_blank c.args.bytes.now c.loop-at.at c.args.end c.word_end-stop.result before
-            c.requires.inside c.word_end-stop.ensures.place w.if-at-stop.false) c.loop-at.invariant.words;
+        words = rw (← no_word is_blank c.args.bytes.now c.loop-at.at c.args.end c.first_cut-stop.result before
+            c.requires.inside c.first_cut-stop.ensures.place w.if-at-stop.false) c.loop-at.invariant.words;
         within = c.loop-at.invariant.within;
       })
     ]

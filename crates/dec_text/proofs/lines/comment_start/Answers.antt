@@ -1,7 +1,0 @@
-use Rattle.dec_text.proofs.Places.{end_of_part}
-use Rattle.dec_text.specs.Bytes.{is_comment_mark}
-use Rattle.dec_text.proofs.lines.comment_start.Goals as goal
-
-pub returns-in-None-clause-place : goal.returns-in-None-clause-place
-returns-in-None-clause-place c =
-    end_of_part is_comment_mark c.args.bytes.now c.args.start c.args.end c.requires.ordered c.requires.inside c.in-None.ensures
