@@ -1,5 +1,5 @@
 mod Below
-pub mod FileKinds
+pub mod FileForms
 mod FirstKinds
 pub mod FormTables
 mod Least

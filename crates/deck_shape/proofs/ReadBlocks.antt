@@ -8,7 +8,7 @@ use Rattle.dec_text.specs.Lines.{WordLine}
 use Rattle.deck_shape.specs.Blocks.{BlockLines}
 use Rattle.deck_shape.specs.LineFaults.{closes, closes_file, fault_at, is_outermost, read_below}
 use Rattle.deck_shape.specs.LineWords.{head_of, is_row}
-use Rattle.deck_shape.specs.Reading.{SoFar, after_line, after_row, after_word, block_of, kind_below, read_after, rule_at}
+use Rattle.deck_shape.specs.Reading.{SoFar, after_line, after_row, after_word, block_of, form_below, read_after, rule_at}
 use Rattle.deck_shape.specs.Tables.{is_spelled, rule_for, rules_of}
 use Rattle.deck_shape.specs.declared.reading.Below.{Below}
 use Rattle.deck_shape.specs.declared.reading.Below.TheVariants.{Words, Rows, Enclosed}
@@ -18,14 +18,14 @@ use Rattle.deck_shape.proofs.Below.{read_after-last}
 use Rattle.deck_shape.proofs.Maps.{IfSome-find}
 
 -- what holds of each rule of a block holds of that of a word
-pub role_of : (P : Rule → Type 0) (kind : BlockForm) (word : List ℕ) (rule : Rule) → AllByRecursion P (rules_of kind)
-    → rule_for kind word ≡ Some rule → P rule
-role_of P kind word rule all is = subst (λ r. IfSome r P) is (IfSome-find P (λ r. is_spelled r.keyword word) (rules_of kind) all)
+pub role_of : (P : Rule → Type 0) (form : BlockForm) (word : List ℕ) (rule : Rule) → AllByRecursion P (rules_of form)
+    → rule_for form word ≡ Some rule → P rule
+role_of P form word rule all is = subst (λ r. IfSome r P) is (IfSome-find P (λ r. is_spelled r.keyword word) (rules_of form) all)
 
 -- the rule of a line is that of its word in the block where it stands
-pub rule_in : (so_far : SoFar) (line : WordLine) (rule : Rule) (kind : BlockForm) → block_of so_far ≡ kind
-    → rule_at so_far line ≡ Some rule → rule_for kind (head_of line) ≡ Some rule
-rule_in so_far line rule kind same is =
+pub rule_in : (so_far : SoFar) (line : WordLine) (rule : Rule) (form : BlockForm) → block_of so_far ≡ form
+    → rule_at so_far line ≡ Some rule → rule_for form (head_of line) ≡ Some rule
+rule_in so_far line rule form same is =
     let found = rule_for (block_of so_far) (head_of line) in
     elim (cases_Bool (is_row line)) [
       | inl row ↦ let no : None ≡ Some rule = sym (ap (λ b. if b then None else found) row) ∙ is in cc
@@ -41,10 +41,10 @@ both true b is = (refl, is)
 both false b is = absurd (false≢true is)
 
 -- outside enclosed rows the next line stands in the block of the file
-pub outermost : (below : Below) (kind : BlockForm) → is_outermost below ≡ true → kind_below below kind ≡ kind
-outermost Words kind is = refl
-outermost Rows kind is = refl
-outermost (Enclosed rows) kind is = absurd (false≢true is)
+pub outermost : (below : Below) (form : BlockForm) → is_outermost below ≡ true → form_below below form ≡ form
+outermost Words form is = refl
+outermost Rows form is = refl
+outermost (Enclosed rows) form is = absurd (false≢true is)
 
 abbrev outcome : SoFar → WordLine → Bool → Bool → Result BlockLines (ℕ × ℕ) → Result BlockLines (ℕ × ℕ)
 outcome so_far line faulty closes rest =
@@ -57,7 +57,7 @@ module _ (P : SoFar → Type 0) (Q : BlockLines → Type 0)
     (by_word : (so_far : SoFar) (line : WordLine) (rule : Rule) → P so_far → rule_at so_far line ≡ Some rule
     → fault_at so_far line ≡ None → P (after_word line so_far rule.role))
     (by_closing : (so_far : SoFar) (line : WordLine) (rule : Rule) → P so_far → rule_at so_far line ≡ Some rule → fault_at so_far line ≡ None
-    → block_of so_far ≡ so_far.block.kind → closes rule.role ≡ true → Q (record so_far.block { end_line = line.number })) where
+    → block_of so_far ≡ so_far.block.form → closes rule.role ≡ true → Q (record so_far.block { end_line = line.number })) where
   by_rule : (so_far : SoFar) (line : WordLine) → P so_far → fault_at so_far line ≡ None → (rule : Option Rule) → rule_at so_far line ≡ rule
       → P (option_map_or (λ r. after_word line so_far r.role) rule so_far)
   by_rule so_far line read none None is = read
@@ -76,7 +76,7 @@ module _ (P : SoFar → Type 0) (Q : BlockLines → Type 0)
             (by_rule so_far line read none (rule_at so_far line) refl)
       ]
 
-  close_by : (so_far : SoFar) (line : WordLine) → P so_far → fault_at so_far line ≡ None → block_of so_far ≡ so_far.block.kind
+  close_by : (so_far : SoFar) (line : WordLine) → P so_far → fault_at so_far line ≡ None → block_of so_far ≡ so_far.block.form
       → (rule : Option Rule) → rule_at so_far line ≡ rule → option_map_or (λ r. closes r.role) rule false ≡ true
       → Q (record so_far.block { end_line = line.number })
   close_by so_far line read none same None is closing = absurd (false≢true closing)
@@ -86,7 +86,7 @@ module _ (P : SoFar → Type 0) (Q : BlockLines → Type 0)
       → closes_file so_far line ≡ true → Q (record so_far.block { end_line = line.number })
   closed so_far line read none closing =
       let parts = both (is_outermost so_far.below) (option_map_or (λ rule. closes rule.role) (rule_at so_far line) false) closing in
-      close_by so_far line read none (outermost so_far.below so_far.block.kind parts.0) (rule_at so_far line) refl parts.1
+      close_by so_far line read none (outermost so_far.below so_far.block.form parts.0) (rule_at so_far line) refl parts.1
 
   by_outcome : (so_far : SoFar) (line : WordLine) (faulty closing : Bool) (rest : Result BlockLines (ℕ × ℕ))
       (block : BlockLines) → is_some (fault_at so_far line) ≡ faulty → closes_file so_far line ≡ closing

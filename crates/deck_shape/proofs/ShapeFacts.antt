@@ -26,7 +26,7 @@ use Rattle.deck_shape.proofs.ReadBlocks.{read_has, role_of, rule_in}
 
 -- a block that knows its closing word alone
 abbrev pub ClosesAlone : BlockForm → Type 0
-ClosesAlone kind = AllByRecursion (λ rule. rule.role ≡ Closes) (rules_of kind)
+ClosesAlone form = AllByRecursion (λ rule. rule.role ≡ Closes) (rules_of form)
 
 abbrev pub IsBelow : Below → Type 0
 IsBelow Words = Unit {0}
@@ -41,7 +41,7 @@ IsRole BeginsLattice = Unit {0}
 IsRole Closes = Unit {0}
 IsRole Unsupported = Unit {0}
 
-all_roles : (kind : BlockForm) → AllByRecursion (λ rule. IsRole rule.role) (rules_of kind)
+all_roles : (form : BlockForm) → AllByRecursion (λ rule. IsRole rule.role) (rules_of form)
 all_roles Simulation = search rules depth 60
 all_roles LatticeFile = (tt, tt)
 all_roles DefaultChoice = (tt, (tt, (tt, (tt, tt))))
@@ -52,7 +52,7 @@ all_roles LatticeStructure = (tt, tt)
 
 -- what is read so far of a file
 pub record IsRead (so_far : SoFar) : Type 0 where
-  pub known : AllByRecursion (IsKnown so_far.block.kind) so_far.block.items
+  pub known : AllByRecursion (IsKnown so_far.block.form) so_far.block.items
   pub below : IsBelow so_far.below
 
 not_first : (holds : Bool) (kind : ℕ) (faults : List (Bool × ℕ)) → first_kind ((holds, kind) ∷ faults) ≡ None
@@ -97,32 +97,32 @@ all_pushed : {X : Type 0} (P : X → Type 0) (xs : List X) (x : X) → AllByRecu
 all_pushed P [] x all here = (here, tt)
 all_pushed P (y ∷ ys) x all here = (all.0, all_pushed P ys x all.1 here)
 
-row_kept : (kind : BlockForm) (row : WordLine) (items : List ItemLines) → AllByRecursion (IsKnown kind) items
-    → AllByRecursion (IsKnown kind) (with_row row items)
-row_kept kind row [] all = tt
-row_kept kind row (item ∷ []) all = (record { rule = all.0.rule; has_rule = all.0.has_rule; is_allowed = all.0.is_allowed }, tt)
-row_kept kind row (item ∷ next ∷ items) all = (all.0, row_kept kind row (next ∷ items) all.1)
+row_kept : (form : BlockForm) (row : WordLine) (items : List ItemLines) → AllByRecursion (IsKnown form) items
+    → AllByRecursion (IsKnown form) (with_row row items)
+row_kept form row [] all = tt
+row_kept form row (item ∷ []) all = (record { rule = all.0.rule; has_rule = all.0.has_rule; is_allowed = all.0.is_allowed }, tt)
+row_kept form row (item ∷ next ∷ items) all = (all.0, row_kept form row (next ∷ items) all.1)
 
 -- a word line without faults is read, by its role
-module _ (so_far : SoFar) (read : IsRead so_far) (line : WordLine) (known : IsKnown so_far.block.kind (record { line = line; rows = [] })) where
+module _ (so_far : SoFar) (read : IsRead so_far) (line : WordLine) (known : IsKnown so_far.block.form (record { line = line; rows = [] })) where
   by_role : (role : Role) → IsRole role → IsRead (after_word line so_far role)
-  by_role Value is = record { known = all_pushed (IsKnown so_far.block.kind) so_far.block.items _ read.known known; below = tt }
-  by_role HasRows is = record { known = all_pushed (IsKnown so_far.block.kind) so_far.block.items _ read.known known; below = tt }
-  by_role (Encloses rows) is = record { known = all_pushed (IsKnown so_far.block.kind) so_far.block.items _ read.known known; below = is }
+  by_role Value is = record { known = all_pushed (IsKnown so_far.block.form) so_far.block.items _ read.known known; below = tt }
+  by_role HasRows is = record { known = all_pushed (IsKnown so_far.block.form) so_far.block.items _ read.known known; below = tt }
+  by_role (Encloses rows) is = record { known = all_pushed (IsKnown so_far.block.form) so_far.block.items _ read.known known; below = is }
   by_role BeginsLattice is = record { known = tt; below = tt }
   by_role Closes is = record { known = read.known; below = tt }
   by_role Unsupported is = read
 
 module _ (block : BlockLines) (line : WordLine) (rule : Rule) where
-  in_block : (below : Below) → block_of (record { block = block; below = below }) ≡ block.kind → IsRead (record { block = block; below = below })
+  in_block : (below : Below) → block_of (record { block = block; below = below }) ≡ block.form → IsRead (record { block = block; below = below })
       → rule_at (record { block = block; below = below }) line ≡ Some rule
       → fault_at (record { block = block; below = below }) line ≡ None
       → IsRead (after_word line (record { block = block; below = below }) rule.role)
   in_block below same read is none =
       let so_far : SoFar = record { block = block; below = below } in
-      let found : rule_for block.kind (head_of line) ≡ Some rule = rule_in so_far line rule block.kind same is in
+      let found : rule_for block.form (head_of line) ≡ Some rule = rule_in so_far line rule block.form same is in
       by_role so_far read line (record { rule = rule; has_rule = found; is_allowed = allowed so_far line rule is none }) rule.role
-      (role_of (λ r. IsRole r.role) block.kind (head_of line) rule (all_roles block.kind) found)
+      (role_of (λ r. IsRole r.role) block.form (head_of line) rule (all_roles block.form) found)
 
   word_read : (below : Below) → IsRead (record { block = block; below = below }) → rule_at (record { block = block; below = below }) line ≡ Some rule
       → fault_at (record { block = block; below = below }) line ≡ None → IsRead (after_word line (record { block = block; below = below }) rule.role)
@@ -139,21 +139,21 @@ and_rest false b is none = absurd (false≢true is)
 
 -- the block is whole where its closing word stands
 closed : (so_far : SoFar) (line : WordLine) (rule : Rule) → IsRead so_far → rule_at so_far line ≡ Some rule → fault_at so_far line ≡ None
-    → block_of so_far ≡ so_far.block.kind → closes rule.role ≡ true → IsWhole (record so_far.block { end_line = line.number })
+    → block_of so_far ≡ so_far.block.form → closes rule.role ≡ true → IsWhole (record so_far.block { end_line = line.number })
 closed so_far line rule read is none same closing =
     let items = so_far.block.items in
-    let misses : (closes rule.role && list_any (is_missing items) (rules_of so_far.block.kind)) ≡ false =
+    let misses : (closes rule.role && list_any (is_missing items) (rules_of so_far.block.form)) ≡ false =
     sym (ap (λ k. misses_word k items rule) same) ∙ misses_none so_far line rule is none in
     record {
       known = read.known;
-      none_missing = and_rest (closes rule.role) (list_any (is_missing items) (rules_of so_far.block.kind)) closing misses;
+      none_missing = and_rest (closes rule.role) (list_any (is_missing items) (rules_of so_far.block.form)) closing misses;
     }
 
 -- the block of a file is whole
-pub whole_block : (kind : BlockForm) (text : List ℕ) (block : BlockLines) → block_of_text kind text ≡ Ok block → IsWhole block
-whole_block kind text block is =
+pub whole_block : (form : BlockForm) (text : List ℕ) (block : BlockLines) → block_of_text form text ≡ Ok block → IsWhole block
+whole_block form text block is =
     read_has IsRead IsWhole
-    (λ so_far row read. record { known = row_kept so_far.block.kind row so_far.block.items read.known; below = read.below })
+    (λ so_far row read. record { known = row_kept so_far.block.form row so_far.block.items read.known; below = read.below })
     (λ so_far line rule read rule_is none. word_read so_far.block line rule so_far.below read rule_is none)
     closed
-    (nothing_read kind) [] (word_lines text) (line_count text) block (record { known = tt; below = tt }) is
+    (nothing_read form) [] (word_lines text) (line_count text) block (record { known = tt; below = tt }) is

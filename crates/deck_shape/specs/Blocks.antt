@@ -21,7 +21,7 @@ pub record ItemLines : Type 0 where
 -- A block: the word that opened it with its line and its argument, the line of its closing word, and its word lines.
 -- A file that is a block as a whole has no opening word: an empty one, at line 0.
 pub record BlockLines : Type 0 where
-  pub kind : BlockForm
+  pub form : BlockForm
   pub word : Run
   pub line : ℕ
   pub end_line : ℕ
@@ -35,7 +35,7 @@ item_at text item = record { line = line_at text item.line; rows = map (line_at 
 -- the block of lines that a block stands for in its text
 abbrev pub block_at : List ℕ → Block → BlockLines
 block_at text block = record {
-  kind = block.kind;
+  form = block.form;
   word = run_at text block.word;
   line = block.line;
   end_line = block.end_line;

@@ -83,7 +83,7 @@ is_missing items rule = is_required rule.need && not (has_word_of rule items)
 
 -- the closing word of a block in which a word is missing
 abbrev pub misses_word : BlockForm → List ItemLines → Rule → Bool
-misses_word kind items rule = closes rule.role && list_any (is_missing items) (rules_of kind)
+misses_word form items rule = closes rule.role && list_any (is_missing items) (rules_of form)
 
 -- the argument of the lattice file's first word names no lattice
 abbrev pub names_no_lattice : WordLine → Rule → Bool
@@ -149,4 +149,4 @@ read_below first above (line ∷ lines) count =
 
 -- the block of a text, or its first fault of form
 abbrev pub block_of_text : BlockForm → List ℕ → Result BlockLines (ℕ × ℕ)
-block_of_text kind text = read_below (nothing_read kind) [] (word_lines text) (line_count text)
+block_of_text form text = read_below (nothing_read form) [] (word_lines text) (line_count text)

@@ -30,20 +30,20 @@ first_block State = None
 
 -- nothing has been read yet
 abbrev pub nothing_read : BlockForm → SoFar
-nothing_read kind = record {
-  block = record { kind = kind; word = run 0 []; line = 0; end_line = 0; name = run 0 []; items = [] };
+nothing_read form = record {
+  block = record { form = form; word = run 0 []; line = 0; end_line = 0; name = run 0 []; items = [] };
   below = Words;
 }
 
 -- the block that a line below stands in: that of enclosed rows, or the file's
-abbrev pub kind_below : Below → BlockForm → BlockForm
-kind_below Words kind = kind
-kind_below Rows kind = kind
-kind_below (Enclosed rows) kind = rows
+abbrev pub form_below : Below → BlockForm → BlockForm
+form_below Words form = form
+form_below Rows form = form
+form_below (Enclosed rows) form = rows
 
 -- the block of the next line
 abbrev pub block_of : SoFar → BlockForm
-block_of so_far = kind_below so_far.below so_far.block.kind
+block_of so_far = form_below so_far.below so_far.block.form
 
 -- the rule of a word line in the block where it stands
 abbrev pub rule_at : SoFar → WordLine → Option Rule
@@ -66,7 +66,7 @@ argument_of line = (first_of (arguments_of line)).bytes
 -- the block once a word line has opened it
 abbrev pub begun : WordLine → BlockLines → BlockLines
 begun line block = record {
-  kind = unwrap_or (lattice_block (argument_of line)) block.kind;
+  form = unwrap_or (lattice_block (argument_of line)) block.form;
   word = first_of line.words;
   line = line.number;
   end_line = 0;

@@ -32,7 +32,7 @@ is_spelled keyword word = same_word (spelling keyword) word
 
 -- the rule of a word in a block, where the block has the word
 abbrev pub rule_for : BlockForm → List ℕ → Option Rule
-rule_for kind word = find (λ rule. is_spelled rule.keyword word) (rules_of kind)
+rule_for form word = find (λ rule. is_spelled rule.keyword word) (rules_of form)
 
 -- so many arguments are allowed
 abbrev pub allows : Arguments → ℕ → Bool

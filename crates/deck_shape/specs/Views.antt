@@ -9,7 +9,7 @@ use Rattle.deck_shape.specs.declared.reading.Reading.{Reading}
 abbrev pub reading_at : List ℕ → Reading → SoFar
 reading_at text reading = record {
   block = record {
-    kind = reading.kind;
+    form = reading.form;
     word = run_at text reading.word;
     line = reading.line;
     end_line = 0;

@@ -12,22 +12,22 @@ use Rattle.deck_shape.specs.declared.table.BlockForm.TheVariants.{LatticeStructu
 use Rattle.deck_shape.specs.declared.table.Rule.{Rule}
 
 -- a block that is a lattice, in one of its three forms
-abbrev pub IsLatticeKind : BlockForm → Type 0
-IsLatticeKind DefaultChoice = Unit {0}
-IsLatticeKind PeriodicCell = Unit {0}
-IsLatticeKind Explicit = Unit {0}
-IsLatticeKind Simulation = ⊥
-IsLatticeKind LatticeFile = ⊥
-IsLatticeKind NeighboringRows = ⊥
-IsLatticeKind LatticeRows = ⊥
+abbrev pub IsLatticeForm : BlockForm → Type 0
+IsLatticeForm DefaultChoice = Unit {0}
+IsLatticeForm PeriodicCell = Unit {0}
+IsLatticeForm Explicit = Unit {0}
+IsLatticeForm Simulation = ⊥
+IsLatticeForm LatticeFile = ⊥
+IsLatticeForm NeighboringRows = ⊥
+IsLatticeForm LatticeRows = ⊥
 
 -- a word that the block has, with as many arguments as it takes
-pub record IsKnown (kind : BlockForm) (item : ItemLines) : Type 0 where
+pub record IsKnown (form : BlockForm) (item : ItemLines) : Type 0 where
   pub rule : Rule
-  pub has_rule : rule_for kind (head_of item.line) ≡ Some rule
+  pub has_rule : rule_for form (head_of item.line) ≡ Some rule
   pub is_allowed : allows rule.arguments (length (arguments_of item.line)) ≡ true
 
 -- a block that misses no word, and whose words have as many arguments as they take
 pub record IsWhole (block : BlockLines) : Type 0 where
-  pub known : AllByRecursion (IsKnown block.kind) block.items
-  pub none_missing : list_any (is_missing block.items) (rules_of block.kind) ≡ false
+  pub known : AllByRecursion (IsKnown block.form) block.items
+  pub none_missing : list_any (is_missing block.items) (rules_of block.form) ≡ false

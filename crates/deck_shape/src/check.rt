@@ -40,10 +40,10 @@ pub(crate) fn is_spelled(keyword: Keyword, word: &[u8]) -> bool
 }
 
 /// The rule of a word in a block, where the block has the word.
-fn rule_for(kind: BlockForm, word: &[u8]) -> Option<&'static Rule>
-    ensures { option_copied result ≡ rule_for kind word.now }
+fn rule_for(form: BlockForm, word: &[u8]) -> Option<&'static Rule>
+    ensures { option_copied result ≡ rule_for form word.now }
 {
-    kind.rules()
+    form.rules()
         .iter()
         .find(|rule| is_spelled(rule.keyword, word))
 }
@@ -116,10 +116,10 @@ fn is_missing(bytes: &[u8], rule: &Rule, items: &[Item]) -> bool
 }
 
 /// Some word that has to stand in a block does not.
-fn any_is_missing(bytes: &[u8], kind: BlockForm, items: &[Item]) -> bool
-    ensures { result ≡ list_any (is_missing (map (item_at bytes.now) items.now)) (rules_of kind) }
+fn any_is_missing(bytes: &[u8], form: BlockForm, items: &[Item]) -> bool
+    ensures { result ≡ list_any (is_missing (map (item_at bytes.now) items.now)) (rules_of form) }
 {
-    kind.rules()
+    form.rules()
         .iter()
         .any(|rule| is_missing(bytes, rule, items))
 }
@@ -153,10 +153,10 @@ fn is_repeated(bytes: &[u8], items: &[Item], rule: &Rule) -> bool
 }
 
 /// The closing word of a block in which a word is missing.
-fn misses_word(bytes: &[u8], kind: BlockForm, items: &[Item], rule: &Rule) -> bool
-    ensures { result ≡ misses_word kind (map (item_at bytes.now) items.now) rule.now }
+fn misses_word(bytes: &[u8], form: BlockForm, items: &[Item], rule: &Rule) -> bool
+    ensures { result ≡ misses_word form (map (item_at bytes.now) items.now) rule.now }
 {
-    closes(rule.role) && any_is_missing(bytes, kind, items)
+    closes(rule.role) && any_is_missing(bytes, form, items)
 }
 
 /// The argument of the lattice file's first word names no lattice.

@@ -13,7 +13,7 @@ use crate::kind::NOT_CLOSED;
 use crate::reading::{Reading, first_block};
 use crate::shape::{Block, Shape};
 use crate::table::BlockForm;
-use dec_text::{Line, split};
+use dec_text::{FIRST_LINE, Line, next_line};
 use kmc_base::{FileId, Sequence, OutOfMemory};
 use std::alloc::Global;
 
@@ -65,17 +65,16 @@ fn fault(file: FileId, line: u32, kind: u8) -> DeckFault
 fn read_block(
     alloc: Global,
     file: FileId,
-    kind: BlockForm,
+    form: BlockForm,
     bytes: &[u8],
 ) -> Result<Block, DeckFault>
     requires { length bytes.now < 2 ^ 32 - 1 }
-    ensures block { IfOk result (λ block. block_of_text kind bytes.now ≡ Ok (block_at bytes.now block)) }
-    ensures fault { IfErr result (IsFaultOf file (block_of_text kind bytes.now)) }
+    ensures block { IfOk result (λ block. block_of_text form bytes.now ≡ Ok (block_at bytes.now block)) }
+    ensures fault { IfErr result (IsFaultOf file (block_of_text form bytes.now)) }
 {
-    let mut lines = split(alloc, bytes)?;
-    lines.reverse();
-    let mut reading = Reading::new(alloc, kind);
-    while let Some(line) = lines.pop() {
+    let mut place = FIRST_LINE;
+    let mut reading = Reading::new(alloc, form);
+    while let Some(line) = next_line(alloc, bytes, &mut place)? {
         if let Some(kind) = fault_at(&reading, bytes, &line) {
             return Err(fault(file, line.number, kind));
         }
@@ -96,12 +95,12 @@ pub fn read_shape(alloc: Global, file: FileId, bytes: &[u8]) -> Result<Shape, De
     requires known { IsSome (first_block file) }
     requires short { length bytes.now < 2 ^ 32 - 1 }
     ensures shape { IfOk result (IsShapeOf file bytes.now) }
-    ensures fault { (kind : BlockForm) → first_block file ≡ Some kind → IfErr result (IsFaultOf file (block_of_text kind bytes.now)) }
+    ensures fault { (form : BlockForm) → first_block file ≡ Some form → IfErr result (IsFaultOf file (block_of_text form bytes.now)) }
 {
-    let Some(kind) = first_block(file) else {
+    let Some(form) = first_block(file) else {
         unreachable!();
     };
-    let block = read_block(alloc, file, kind, bytes)?;
+    let block = read_block(alloc, file, form, bytes)?;
     let blocks = Vec::from_array(alloc, [block])?;
     Ok(Shape {
         blocks: Sequence::new(blocks),

@@ -25,7 +25,7 @@ pub(crate) enum Below {
 /// What has been read of a file: its block so far, and what may come next.
 #[derive(Debug, Drop)]
 pub(crate) struct Reading {
-    pub(crate) kind: BlockForm,
+    pub(crate) form: BlockForm,
     word: Span,
     line: u32,
     name: Span,
@@ -75,11 +75,11 @@ fn with_row(alloc: Global, items: Vec<Item>, row: Line) -> Result<Vec<Item>, Out
 
 impl Reading {
     /// Nothing is read yet.
-    pub(crate) fn new(alloc: Global, kind: BlockForm) -> Reading
-        ensures { (text : List ℕ) → reading_at text result ≡ nothing_read kind }
+    pub(crate) fn new(alloc: Global, form: BlockForm) -> Reading
+        ensures { (text : List ℕ) → reading_at text result ≡ nothing_read form }
     {
         Reading {
-            kind,
+            form,
             word: NO_WORD,
             line: 0,
             name: NO_WORD,
@@ -94,7 +94,7 @@ impl Reading {
     {
         match self.below {
             Below::Enclosed(rows) => rows,
-            Below::Words | Below::Rows => self.kind,
+            Below::Words | Below::Rows => self.form,
         }
     }
 
@@ -125,7 +125,7 @@ impl Reading {
     {
         let name = argument(line);
         Reading {
-            kind: lattice_block(name.bytes(bytes)).unwrap_or(self.kind),
+            form: lattice_block(name.bytes(bytes)).unwrap_or(self.form),
             word: head(line),
             line: line.number,
             name,
@@ -162,7 +162,7 @@ impl Reading {
         ensures { (text : List ℕ) → block_at text result ≡ record (reading_at text self).block { end_line = end_line } }
     {
         Block {
-            kind: self.kind,
+            form: self.form,
             word: self.word,
             line: self.line,
             end_line,

@@ -53,7 +53,7 @@ impl Item {
 #[derive(Debug, Drop)]
 pub struct Block {
     /// Which block it is, and so which words it has.
-    pub kind: BlockForm,
+    pub form: BlockForm,
     /// The word that opened it. A file that is a block as a whole has none, and an empty place here.
     pub word: Span,
     /// The number of the line of that word, or 0.

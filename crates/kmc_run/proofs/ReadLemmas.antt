@@ -50,9 +50,9 @@ file_fails file r (Faulty fault) is =
 file_fails file r OutOfMemory is = tt
 
 -- the block of a file that has a shape
-pub block_read : (file : FileId) (kind : BlockForm) (text : List ℕ) (shape : Shape) → first_block file ≡ Some kind
-    → (s : IsShapeOf file text shape) → in_file file (block_of_text kind text) ≡ Ok s.block
-block_read file kind text shape is s = ap (in_file file) (ap (λ o. block_of_text (unwrap_or o kind) text) (sym is ∙ s.begins) ∙ s.read)
+pub block_read : (file : FileId) (form : BlockForm) (text : List ℕ) (shape : Shape) → first_block file ≡ Some form
+    → (s : IsShapeOf file text shape) → in_file file (block_of_text form text) ≡ Ok s.block
+block_read file form text shape is s = ap (in_file file) (ap (λ o. block_of_text (unwrap_or o form) text) (sym is ∙ s.begins) ∙ s.read)
 
 -- two readings, a reading over each, and a test of the last
 abbrev both : {A B C D : Type 0} → Result A Fault → Result B Fault → (A → Result C Fault) → (B → Result D Fault)

@@ -18,7 +18,7 @@ use Rattle.deck_shape.specs.LineWords.{arguments_of, head_of}
 use Rattle.deck_shape.specs.Lists.{fault_if, has_other_length, names_repeat}
 use Rattle.deck_shape.specs.Numbers.{numbers_fault, whole_kind}
 use Rattle.deck_shape.specs.Tables.{allows, rule_for, rules_of}
-use Rattle.deck_shape.specs.WholeBlocks.{IsKnown, IsLatticeKind, IsWhole}
+use Rattle.deck_shape.specs.WholeBlocks.{IsKnown, IsLatticeForm, IsWhole}
 use Rattle.deck_shape.specs.declared.keyword.Keyword.{Keyword}
 use Rattle.deck_shape.specs.declared.keyword.Keyword.TheVariants.{HexagonalPeriodic, LatticeStructure, NCellSites, NSiteTypes, NSites}
 use Rattle.deck_shape.specs.declared.keyword.Keyword.TheVariants.{NeighboringStructure, RectangularPeriodic, RepeatCell, SiteTypeNames}
@@ -320,7 +320,7 @@ all_there items (rule ∷ rules) none =
     let parts = or_neither (is_missing items rule) (list_any (is_missing items) rules) none in
     (parts.0, all_there items rules parts.1)
 
-by_kind : (kind : BlockForm) (items : List ItemLines) → IsLatticeKind kind → AllByRecursion (IsKnown kind) items
+by_kind : (kind : BlockForm) (items : List ItemLines) → IsLatticeForm kind → AllByRecursion (IsKnown kind) items
     → list_any (is_missing items) (rules_of kind) ≡ false → fault_among (sizes_in items) items ≡ None
     → AreFaultless kind items
 by_kind DefaultChoice items is known missing none =
@@ -341,5 +341,5 @@ by_kind LatticeFile items is known missing none = absurd is
 by_kind NeighboringRows items is known missing none = absurd is
 by_kind LatticeRows items is known missing none = absurd is
 
-pub faultless : (block : BlockLines) → IsLatticeKind block.kind → IsWhole block → first_fault block ≡ None → AreFaultless block.kind block.items
-faultless block kind whole none = by_kind block.kind block.items kind whole.known whole.none_missing none
+pub faultless : (block : BlockLines) → IsLatticeForm block.form → IsWhole block → first_fault block ≡ None → AreFaultless block.form block.items
+faultless block kind whole none = by_kind block.form block.items kind whole.known whole.none_missing none

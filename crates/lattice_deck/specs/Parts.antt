@@ -108,4 +108,4 @@ values_unless values (Some fault) = Err fault
 
 -- the values of the block of a lattice file, or its first fault
 abbrev pub part_of : BlockLines → Result LatticeValues (ℕ × ℕ)
-part_of block = values_unless (values_of block.kind block.items) (first_fault block)
+part_of block = values_unless (values_of block.form block.items) (first_fault block)

@@ -1,7 +1,7 @@
 ghost use Rattle.std.specs.Prelude.{◌≡◌, ◌∷◌, [], IfErr, IfOk, Ok, map};
 ghost use Rattle.deck_shape.specs.Blocks.{BlockLines, block_at};
 ghost use Rattle.deck_shape.specs.Shapes.{IsFaultOf, IsShapeOf};
-ghost use Rattle.deck_shape.specs.WholeBlocks.{IsLatticeKind, IsWhole};
+ghost use Rattle.deck_shape.specs.WholeBlocks.{IsLatticeForm, IsWhole};
 ghost use Rattle.kmc_base.specs.declared.ids.FileId.TheVariants.{Lattice};
 ghost use Rattle.lattice_deck.specs.Faultless.{AreFaultless};
 ghost use Rattle.lattice_deck.specs.Parts.{part_of, values_at};
@@ -15,10 +15,10 @@ use std::alloc::Global;
 
 /// The values of a block without faults of form, or its first fault.
 fn read_block(alloc: Global, bytes: &[u8], block: &Block) -> Result<LatticePart, DeckFault>
-    requires kind { IsLatticeKind block.now.kind }
+    requires form { IsLatticeForm block.now.form }
     requires whole { IsWhole (block_at bytes.now block.now) }
     ensures values { IfOk result (λ part. part_of (block_at bytes.now block.now) ≡ Ok (values_at bytes.now part)) }
-    ensures sound { IfOk result (λ _. AreFaultless block.now.kind (block_at bytes.now block.now).items) }
+    ensures sound { IfOk result (λ _. AreFaultless block.now.form (block_at bytes.now block.now).items) }
     ensures fault { IfErr result (IsFaultOf Lattice (part_of (block_at bytes.now block.now))) }
 {
     if let Some((line, kind)) = first_fault(alloc, block, bytes)? {
@@ -41,7 +41,7 @@ pub fn read(alloc: Global, bytes: &[u8], shape: &Shape) -> Result<LatticePart, D
     ensures values { (block : BlockLines) → map (block_at bytes.now) shape.now.blocks ≡ block ∷ []
         → IfOk result (λ part. part_of block ≡ Ok (values_at bytes.now part)) }
     ensures sound { (block : BlockLines) → map (block_at bytes.now) shape.now.blocks ≡ block ∷ []
-        → IfOk result (λ _. AreFaultless block.kind block.items) }
+        → IfOk result (λ _. AreFaultless block.form block.items) }
     ensures fault { (block : BlockLines) → map (block_at bytes.now) shape.now.blocks ≡ block ∷ []
         → IfErr result (IsFaultOf Lattice (part_of block)) }
 {

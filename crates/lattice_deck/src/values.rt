@@ -269,10 +269,10 @@ pub(crate) fn values_of(
     block: &Block,
     bytes: &[u8],
 ) -> Result<LatticePart, OutOfMemory>
-    requires { AreFaultless block.now.kind (block_at bytes.now block.now).items }
-    ensures { IfOk result (λ part. values_at bytes.now part ≡ values_of block.now.kind (block_at bytes.now block.now).items) }
+    requires { AreFaultless block.now.form (block_at bytes.now block.now).items }
+    ensures { IfOk result (λ part. values_at bytes.now part ≡ values_of block.now.form (block_at bytes.now block.now).items) }
 {
-    match block.kind {
+    match block.form {
         BlockForm::DefaultChoice => default_part(alloc, block, bytes),
         BlockForm::PeriodicCell => cell_part(alloc, block, bytes),
         BlockForm::Explicit => explicit_part(alloc, block, bytes),

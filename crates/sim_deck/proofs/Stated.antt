@@ -168,9 +168,9 @@ module _ (block : BlockLines) (none : first_fault block ≡ None) (known : AllBy
     specnum = sampled SpeciesNumbers refl;
   }
 
-pub states_values : (block : BlockLines) → block.kind ≡ Simulation → IsWhole block → first_fault block ≡ None
+pub states_values : (block : BlockLines) → block.form ≡ Simulation → IsWhole block → first_fault block ≡ None
     → StatesValues block.items (values_of block.items)
 states_values block simulation whole none =
-    all_stated block none (subst (λ kind. AllByRecursion (IsKnown kind) block.items) simulation whole.known)
-    (ap (λ kind. list_any (is_missing block.items) (rules_of kind)) (sym simulation) ∙ whole.none_missing)
+    all_stated block none (subst (λ form. AllByRecursion (IsKnown form) block.items) simulation whole.known)
+    (ap (λ form. list_any (is_missing block.items) (rules_of form)) (sym simulation) ∙ whole.none_missing)
     (sound_lists block none)

@@ -17,7 +17,7 @@ use std::alloc::Global;
 
 /// The values of a block, or its first fault.
 fn read_block(alloc: Global, bytes: &[u8], block: &Block) -> Result<SimPart, DeckFault>
-    requires kind { block.now.kind ≡ SimulationBlock }
+    requires form { block.now.form ≡ SimulationBlock }
     requires whole { IsWhole (block_at bytes.now block.now) }
     ensures values { IfOk result (λ part. part_of (block_at bytes.now block.now) ≡ Ok (values_at bytes.now part)) }
     ensures sound { IfOk result (λ part. IsSoundPart (values_at bytes.now part)) }

@@ -1,2 +1,25 @@
-//! Tests of the crates that read texts: lines, words and numbers, the shape of input files, the simulation file, names of species, and the files in plain form, through their public calls.
+//! The tests of the crates that read text: lines and numbers, the words of the input files, the values of the simulation
+//! file, the names of species, and the plain form of the energetics and mechanism files. They call the public surface of
+//! those crates, and what they expect is written here.
 #![tactic(auto)]
+
+#[cfg(test)]
+mod block_words;
+#[cfg(test)]
+mod fault_kinds;
+#[cfg(test)]
+mod file_shapes;
+#[cfg(test)]
+mod keyword_arguments;
+#[cfg(test)]
+mod lines_of_text;
+#[cfg(test)]
+mod numbers;
+#[cfg(test)]
+mod plain_form;
+#[cfg(test)]
+mod simulation_files;
+#[cfg(test)]
+mod simulation_forms;
+#[cfg(test)]
+mod species_names;

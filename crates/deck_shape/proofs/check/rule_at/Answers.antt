@@ -14,5 +14,5 @@ returns-else-begins_row c =
     let no_row : is_row line ≡ false = ap begins_row (sym word) ∙ sym c.begins_row.ensures ∙ c.if-begins_row.false in
     c.rule_for.ensures
     ∙ ap (rule_for c.block.result) word
-    ∙ ap (λ kind. rule_for kind (head_of line)) (c.block.ensures text)
+    ∙ ap (λ form. rule_for form (head_of line)) (c.block.ensures text)
     ∙ sym (word_rule (reading_at text c.args.reading.now) line no_row)

@@ -15,7 +15,7 @@ returns-then-misses_word c =
     ∙ sym c.is_repeated.ensures ∙ c.if-is_repeated.false in
     let misses =
     ap (λ items. misses_word (block_of (reading_at text c.args.reading.now)) (map (item_at text) items) rule) (sym c.deref-2.ensures.value)
-    ∙ ap (λ kind. misses_word kind (map (item_at text) c.deref-2.result.now) rule) (sym (c.block.ensures text))
+    ∙ ap (λ form. misses_word form (map (item_at text) c.deref-2.result.now) rule) (sym (c.block.ensures text))
     ∙ sym c.misses_word.ensures
     ∙ c.if-misses_word.true in
     sym (fourth_kind _ _ _ _ (names_no_lattice (line_at text c.args.line.now) rule) _ _ _ _ _
@@ -32,7 +32,7 @@ returns c =
     ∙ sym c.is_repeated.ensures ∙ c.if-is_repeated.false in
     let misses =
     ap (λ items. misses_word (block_of (reading_at text c.args.reading.now)) (map (item_at text) items) rule) (sym c.deref-2.ensures.value)
-    ∙ ap (λ kind. misses_word kind (map (item_at text) c.deref-2.result.now) rule) (sym (c.block.ensures text))
+    ∙ ap (λ form. misses_word form (map (item_at text) c.deref-2.result.now) rule) (sym (c.block.ensures text))
     ∙ sym c.misses_word.ensures
     ∙ c.if-misses_word.false in
     sym (no_kind _ _ _ _ _ _ _ _ _ _

@@ -1,13 +1,14 @@
-use Rattle.std.proofs.Common.{◌≡◌, [], map, reverse, vec_len}
-use Rattle.dec_text.specs.Spans.{line_at}
+use Rattle.std.proofs.Common.{◌≡◌, ◌≤◌, ◌+◌, [], length}
+use Rattle.dec_text.specs.Places.{lines_below}
 use Rattle.deck_shape.specs.LineFaults.{block_of_text, line_count, read_below}
 use Rattle.deck_shape.specs.Views.{reading_at}
 use Rattle.deck_shape.proofs.reader.read_block.Given as goal
 
-abbrev pub invariant-loop-line : goal.invariant-loop-line
-invariant-loop-line l =
-    read_below (reading_at l.bytes l.reading) [] (map (line_at l.bytes) (reverse l.lines.items)) (line_count l.bytes)
-    ≡ block_of_text l.fn.kind l.bytes
+abbrev pub invariant-loop-reading : goal.invariant-loop-reading
+invariant-loop-reading l = record {
+  rest : read_below (reading_at l.bytes l.reading) [] (lines_below l.bytes l.place) (line_count l.bytes) ≡ block_of_text l.fn.form l.bytes;
+  counted : l.place.number ≤ l.place.start + 1;
+}
 
-abbrev pub decreases-loop-line : goal.decreases-loop-line
-decreases-loop-line l = vec_len l.lines
+abbrev pub decreases-loop-reading : goal.decreases-loop-reading
+decreases-loop-reading l = length (lines_below l.bytes l.place)

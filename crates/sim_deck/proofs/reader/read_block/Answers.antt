@@ -31,4 +31,4 @@ pub returns-clause-stated : goal.returns-clause-stated
 returns-clause-stated c =
     let block = block_at c.args.bytes.now c.args.block.now in
     subst (StatesValues block.items) (sym c.in_ok-values_of.ensures.value)
-    (states_values block c.requires.kind c.requires.whole (sym c.in_ok-line.ensures ∙ c.in_default.is))
+    (states_values block c.requires.form c.requires.whole (sym c.in_ok-line.ensures ∙ c.in_default.is))
