@@ -13,4 +13,4 @@ pub mod Readings
 pub mod Rounding
 pub mod Runs
 pub mod Scientifics
-pub mod Words
+pub mod Spans

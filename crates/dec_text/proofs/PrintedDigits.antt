@@ -3,21 +3,19 @@ use Rattle.std.proofs.Common.{◌≡◌, ℕ, ◌+◌, ◌-◌, ◌*◌, ◌/◌
 use Rattle.std.proofs.Common.{suc, zero, refl, ap, sym, ◌∙◌, append_assoc, arith, ⊎_elim}
 use Rattle.std.specs.Fmt.{decimal}
 use Rattle.std.specs.List.{fold}
-use Rattle.std.proofs.Math.Nat.{pow-suc, pow-le-pow_right, div-div-eq-div-mul, div-one}
-use Rattle.std.proofs.lemmas.Bool.{cases_Bool, cases_lt}
+use Rattle.std.proofs.Math.Nat.{div-div-eq-div-mul, div-one}
+use Rattle.std.proofs.lemmas.Bool.{and_parts, cases_Bool, cases_lt}
 use Rattle.std.proofs.lemmas.Bool.Decides.{nat_tests}
 use Rattle.std.proofs.lemmas.Fmt.{decimal_by_steps_wide}
 use Rattle.std.proofs.lemmas.List.{append-nil, length_push}
 use Rattle.std.proofs.lemmas.List.Elements.{All-nil, All-push}
 use Rattle.dec_text.proofs.DigitLists.{number_push}
 use Rattle.dec_text.proofs.Fronts.{Digits}
+use Rattle.dec_text.proofs.Powers.{power_at_least, power_suc}
 use Rattle.dec_text.proofs.Scientifics.{Digits-tail}
 use Rattle.dec_text.specs.Digits.{is_digit, is_zero, number, then_digit, without_leading_zeros, without_trailing_zeros}
 use Rattle.dec_text.specs.Fixed.{last_digits}
 use Rattle.dec_text.specs.Lines.{is_filled}
-
-power_suc : (k : ℕ) → 10 ^ suc k ≡ 10 * 10 ^ k
-power_suc k = rw pow-suc (omega arith)
 
 digit_of : (n : ℕ) → n < 10 → is_digit (48 + n) ≡ true
 digit_of n small = grind (arith, nat_tests)
@@ -79,17 +77,13 @@ empty_of : (xs : List ℕ) → not (is_filled xs) ≡ true → xs ≡ []
 empty_of [] e = refl
 empty_of (x ∷ xs) e = absurd (let f : ⊥ = cc in f)
 
-and_both : (x y : Bool) → (x && y) ≡ true → (x ≡ true) × (y ≡ true)
-and_both true y e = (refl, e)
-and_both false y e = absurd (let f : ⊥ = cc in f)
-
 -- zeros at the end are a power of ten
 pub fold-without_trailing_zeros : (n : ℕ) (ds : List ℕ)
     → fold then_digit n ds ≡ fold then_digit n (without_trailing_zeros ds) * 10 ^ (length ds - length (without_trailing_zeros ds))
 fold-without_trailing_zeros n [] = omega arith
 fold-without_trailing_zeros n (d ∷ ds) = ⊎_elim
     (λ (last : (is_zero d && not (is_filled (without_trailing_zeros ds))) ≡ true).
-    let parts = and_both (is_zero d) (not (is_filled (without_trailing_zeros ds))) last in
+    let parts = and_parts (is_zero d) (not (is_filled (without_trailing_zeros ds))) last in
     let empty : without_trailing_zeros ds ≡ [] = empty_of (without_trailing_zeros ds) parts.1 in
     let rest : fold then_digit (then_digit n d) ds ≡ then_digit n d * 10 ^ (length ds - 0) =
     rw empty at (fold-without_trailing_zeros (then_digit n d) ds) in
@@ -125,9 +119,6 @@ first_positive d digit other =
     let bounds : (48 ≤ d) × (d ≡ 48 → ⊥) = grind (arith, nat_tests) in
     omega (arith, bounds)
 
-power_least : (k : ℕ) → 18 ≤ k → 10 ^ 18 ≤ 10 ^ k
-power_least k many = let ten : 0 < 10 = omega arith in pow-le-pow_right {n = 10} ten {i = 18} {j = k} many
-
 -- a number below 10^18 has 18 significant digits at most
 pub short : (ds : List ℕ) → Digits ds → number (without_leading_zeros ds) < 10 ^ 18 → length (without_leading_zeros ds) ≤ 18
 short [] digits = λ small. omega arith
@@ -137,7 +128,7 @@ short (d ∷ ds) digits = ⊎_elim
     rw front (λ (small : number (d ∷ ds) < 10 ^ 18). ⊎_elim
     (λ (few : length ds < 18). omega arith)
     (λ (many : 18 ≤ length ds).
-    let least : 10 ^ 18 ≤ 10 ^ length ds = power_least (length ds) many in
+    let least : 10 ^ 18 ≤ 10 ^ length ds = power_at_least (length ds) many in
     let size : ((d - 49) + 1) * 10 ^ length ds ≤ number (d ∷ ds) =
     rw (← first_positive d (digits 0 0 (omega arith)) front) (large (then_digit 0 d) ds) in
     absurd (omega (arith, one_le (d - 49) (10 ^ length ds) (number (d ∷ ds)) size)))

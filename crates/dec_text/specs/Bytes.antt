@@ -8,6 +8,6 @@ is_line_feed b = b == 10
 abbrev pub is_comment_mark : ℕ → Bool
 is_comment_mark b = b == 35
 
--- what stands between words: space, tab, CR or LF
+-- what separates words: space, tab, CR or LF
 abbrev pub is_blank : ℕ → Bool
 is_blank b = b == 32 || b == 9 || b == 13 || b == 10

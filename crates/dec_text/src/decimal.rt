@@ -57,7 +57,7 @@ impl Model for Decimal {
 ///
 /// # Errors
 ///
-/// `Form` exactly where the word has another form, `Power` exactly where the digits are not 0 and the
+/// `Form` if and only if the word has another form; `Power` if and only if the digits are not 0 and the
 /// power is outside -400 to 400.
 pub fn read_decimal(word: &[u8]) -> Result<Decimal, DecimalFault>
     ensures { result ≡ decimal_of word.now }

@@ -12,7 +12,7 @@ pub(crate) const CAP: u128 = 1 << 100;
 ///
 /// # Errors
 ///
-/// `NotWhole` exactly where the word is none.
+/// `NotWhole` if and only if the word is none.
 pub fn read_whole(word: &[u8]) -> Result<u64, NotWhole>
     ensures { result ≡ whole_number word.now }
 {

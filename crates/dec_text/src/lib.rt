@@ -1,7 +1,8 @@
 //! Text for every layer that reads or writes files: a text's lines and words, decimals, whole
 //! numbers, and numbers printed with a fixed number of decimals.
 //!
-//! `split` gives exactly the words of a text, each by its place, on numbered lines. `read_decimal`
+//! `split` gives exactly the words of a text, each by its place, on numbered lines; `next_line` gives
+//! the same lines one at a time. `read_decimal`
 //! and `read_whole` take exactly the words of their grammar, with the value that each stands for.
 //! `Decimal::scaled` rounds half away from zero. `print_fixed` appends exactly the printed number,
 //! and what it printed is read back. The crate stands on `kmc_base` alone.
@@ -20,6 +21,3 @@ pub use digits::read_whole;
 pub use faults::{DecimalFault, NotWhole, OutOfRange};
 pub use fixed::{print_fixed, printed_reads_back};
 pub use lines::{FIRST_LINE, Line, LinePlace, Span, next_line, split};
-
-#[cfg(test)]
-mod tests;

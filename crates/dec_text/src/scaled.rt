@@ -14,7 +14,7 @@ impl Decimal {
     ///
     /// # Errors
     ///
-    /// `OutOfRange` exactly where that is below `low` or above `high`.
+    /// `OutOfRange` if and only if that is below `low` or above `high`.
     pub fn scaled(self, places: u32, low: i128, high: i128) -> Result<i128, OutOfRange>
         requires places { places ≤ 27 }
         requires low { neg_ℤ (pos (10 ^ 36)) ≤ℤ low }

@@ -1,4 +1,3 @@
-mod Below
 pub mod FileForms
 mod FirstKinds
 pub mod FormTables
@@ -6,10 +5,11 @@ mod Least
 mod LineCounts
 pub mod Maps
 pub mod NameLists
+mod PassedLines
 mod Powers
 mod ReadBlocks
 mod Repeats
 pub mod RisingKinds
 mod Rows
-mod ShapeFacts
-mod Words
+mod WholeBlocks
+mod WordRules

@@ -1,4 +1,4 @@
--- a text has as many lines as line ends, and one more where something stands behind the last of them
+-- a text has as many lines as line ends, and one more if something is behind the last of them
 use Rattle.std.proofs.Common.{◌≡◌, ℕ, ◌+◌, ◌-◌, ◌<◌, Bool, true, false, List, [], ◌∷◌, length, get_or, suc, refl, sym, ◌∙◌, ap, arith, cond, ⊎_elim}
 use Rattle.std.specs.List.{count_by}
 use Rattle.std.proofs.lemmas.Bool.{cases_Bool, eqb-true}

@@ -1,20 +1,15 @@
 -- powers of ten
-use Rattle.std.proofs.Common.{◌≡◌, ◌∙◌, sym, ℕ, ◌+◌, ◌-◌, ◌*◌, ◌^◌, ◌<◌, ◌≤◌, nat_le, arith, add-one, ap, ⊎_elim}
-use Rattle.std.proofs.Math.Nat.{one-le-pow, pow-suc, pow-le-pow_right, mul-le-mul_right, le_of_mul-le-mul_right}
+use Rattle.std.proofs.Common.{◌≡◌, ◌∙◌, sym, ℕ, ◌+◌, ◌-◌, ◌*◌, ◌^◌, ◌<◌, ◌≤◌, nat_le, arith, ap, ⊎_elim}
+use Rattle.std.proofs.Math.Nat.{one-le-pow, pow-le-pow_right, mul-le-mul_right, le_of_mul-le-mul_right}
 use Rattle.std.proofs.lemmas.Bool.{cases_Bool, leb-false, leb-true, le-leb, lt-leb}
 use Rattle.std.proofs.lemmas.Nat.{pow-add}
-
-pub power_at_least : (k : ℕ) → 18 ≤ k → 10 ^ 18 ≤ 10 ^ k
-power_at_least k large = pow-le-pow_right {n = 10} (omega arith) large
+use Rattle.dec_text.proofs.Powers.{power_at_least, power_more}
 
 -- what is below ten to the eighteenth is below each further power
 pub below_further : (digits k : ℕ) → digits < 10 ^ 18 → 18 ≤ k → nat_le 18 k ≡ nat_le digits (10 ^ k)
 below_further digits k below large =
     let least = power_at_least k large in
     le-leb 18 k large ∙ sym (le-leb digits (10 ^ k) (omega arith))
-
-power_more : (k : ℕ) → 10 ^ (k + 1) ≡ 10 * 10 ^ k
-power_more k = rw (add-one, pow-suc) (omega arith)
 
 power_parts : (k m : ℕ) → k ≤ m → 10 ^ m ≡ 10 ^ (m - k) * 10 ^ k
 power_parts k m le = let e : m ≡ (m - k) + k = omega arith in ap (λ n. 10 ^ n) e ∙ pow-add 10 (m - k) k

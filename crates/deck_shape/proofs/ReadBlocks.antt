@@ -1,9 +1,9 @@
--- what holds of a file line by line, and of its block where its closing word stands
+-- what holds of a file line by line, and of its block at its closing word
 use Rattle.std.proofs.Common.{◌≡◌, ℕ, ◌&&◌, Bool, true, false, List, [], ◌∷◌, ◌++◌, Option, None, Some, Result, Ok, Err, IfSome, is_some}
 use Rattle.std.proofs.Common.{unwrap_or, if◌then◌else◌, inl, inr, ap, sym, subst, ◌∙◌, refl}
 use Rattle.std.specs.List.{AllByRecursion}
 use Rattle.std.specs.Option.{option_map_or}
-use Rattle.std.proofs.lemmas.Bool.{cases_Bool, false≢true}
+use Rattle.std.proofs.lemmas.Bool.{and_parts, cases_Bool, false≢true}
 use Rattle.dec_text.specs.Lines.{WordLine}
 use Rattle.deck_shape.specs.Blocks.{BlockLines}
 use Rattle.deck_shape.specs.LineFaults.{closes, closes_file, fault_at, is_outermost, read_below}
@@ -14,7 +14,7 @@ use Rattle.deck_shape.specs.declared.reading.Below.{Below}
 use Rattle.deck_shape.specs.declared.reading.Below.TheVariants.{Words, Rows, Enclosed}
 use Rattle.deck_shape.specs.declared.table.BlockForm.{BlockForm}
 use Rattle.deck_shape.specs.declared.table.Rule.{Rule}
-use Rattle.deck_shape.proofs.Below.{read_after-last}
+use Rattle.deck_shape.proofs.PassedLines.{read_after-last}
 use Rattle.deck_shape.proofs.Maps.{IfSome-find}
 
 -- what holds of each rule of a block holds of that of a word
@@ -22,7 +22,7 @@ pub role_of : (P : Rule → Type 0) (form : BlockForm) (word : List ℕ) (rule :
     → rule_for form word ≡ Some rule → P rule
 role_of P form word rule all is = subst (λ r. IfSome r P) is (IfSome-find P (λ r. is_spelled r.keyword word) (rules_of form) all)
 
--- the rule of a line is that of its word in the block where it stands
+-- the rule of a line is that of its word in its block
 pub rule_in : (so_far : SoFar) (line : WordLine) (rule : Rule) (form : BlockForm) → block_of so_far ≡ form
     → rule_at so_far line ≡ Some rule → rule_for form (head_of line) ≡ Some rule
 rule_in so_far line rule form same is =
@@ -36,11 +36,7 @@ no_fault : (fault : Option ℕ) → is_some fault ≡ false → fault ≡ None
 no_fault None is = refl
 no_fault (Some k) is = cc
 
-both : (a b : Bool) → (a && b) ≡ true → (a ≡ true) × (b ≡ true)
-both true b is = (refl, is)
-both false b is = absurd (false≢true is)
-
--- outside enclosed rows the next line stands in the block of the file
+-- outside enclosed rows the next line is in the block of the file
 pub outermost : (below : Below) (form : BlockForm) → is_outermost below ≡ true → form_below below form ≡ form
 outermost Words form is = refl
 outermost Rows form is = refl
@@ -51,7 +47,7 @@ outcome so_far line faulty closes rest =
     if faulty then Err (line.number, unwrap_or (fault_at so_far line) 0)
     else (if closes then Ok (record so_far.block { end_line = line.number }) else rest)
 
--- P stays while rows and words without faults are read, and gives Q where the closing word stands in the block of the file
+-- P stays while rows and words without faults are read, and gives Q at the closing word of the file
 module _ (P : SoFar → Type 0) (Q : BlockLines → Type 0)
     (by_row : (so_far : SoFar) (line : WordLine) → P so_far → P (after_row line so_far))
     (by_word : (so_far : SoFar) (line : WordLine) (rule : Rule) → P so_far → rule_at so_far line ≡ Some rule
@@ -85,7 +81,7 @@ module _ (P : SoFar → Type 0) (Q : BlockLines → Type 0)
   closed : (so_far : SoFar) (line : WordLine) → P so_far → fault_at so_far line ≡ None
       → closes_file so_far line ≡ true → Q (record so_far.block { end_line = line.number })
   closed so_far line read none closing =
-      let parts = both (is_outermost so_far.below) (option_map_or (λ rule. closes rule.role) (rule_at so_far line) false) closing in
+      let parts = and_parts (is_outermost so_far.below) (option_map_or (λ rule. closes rule.role) (rule_at so_far line) false) closing in
       close_by so_far line read none (outermost so_far.below so_far.block.form parts.0) (rule_at so_far line) refl parts.1
 
   by_outcome : (so_far : SoFar) (line : WordLine) (faulty closing : Bool) (rest : Result BlockLines (ℕ × ℕ))

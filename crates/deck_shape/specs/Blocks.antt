@@ -28,11 +28,11 @@ pub record BlockLines : Type 0 where
   pub name : Run
   pub items : List ItemLines
 
--- the word line and its rows that an item stands for in its text
+-- the word line and the rows of an item in its text
 abbrev pub item_at : List ℕ → Item → ItemLines
 item_at text item = record { line = line_at text item.line; rows = map (line_at text) item.rows }
 
--- the block of lines that a block stands for in its text
+-- the lines of a block in its text
 abbrev pub block_at : List ℕ → Block → BlockLines
 block_at text block = record {
   form = block.form;
@@ -47,17 +47,17 @@ block_at text block = record {
 abbrev pub has_keyword : Keyword → ItemLines → Bool
 has_keyword keyword item = is_spelled keyword (head_of item.line)
 
--- a keyword stands among word lines
+-- some word line has a keyword
 abbrev pub stands : Keyword → List ItemLines → Bool
 stands keyword items = list_any (has_keyword keyword) items
 
--- the other word that counts as a rule's word stands among word lines
+-- some word line has the other word that counts as a rule's word
 abbrev pub has_other : Need → List ItemLines → Bool
 has_other Optional items = false
 has_other Required items = false
 has_other (ThisOr other) items = stands other items
 
--- the word of a rule stands among word lines, or the other word that counts as the same
+-- some word line has the word of a rule, or the other word that counts as the same
 abbrev pub has_word_of : Rule → List ItemLines → Bool
 has_word_of rule items = stands rule.keyword items || has_other rule.need items
 

@@ -5,7 +5,7 @@ pub mod Blocks
 pub mod Lists
 pub mod Forms
 pub mod Names
-pub mod Items
+pub mod WordLines
 pub mod Numbers
 pub mod Reading
 pub mod LineFaults

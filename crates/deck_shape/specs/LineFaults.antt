@@ -22,7 +22,7 @@ use Rattle.deck_shape.specs.declared.table.Role.{Role}
 use Rattle.deck_shape.specs.declared.table.Role.TheVariants.{Value, Rows as HasRows, Encloses, BeginsLattice, Closes, Unsupported}
 use Rattle.deck_shape.specs.declared.table.Rule.{Rule}
 
--- rows may stand on the next line
+-- the next line may be a row
 abbrev pub takes_rows : Below → Bool
 takes_rows Words = false
 takes_rows Rows = true
@@ -73,11 +73,11 @@ is_unknown so_far line = not (is_row line) && is_none (rule_at so_far line)
 abbrev pub has_other_count : WordLine → Rule → Bool
 has_other_count line rule = not (allows rule.arguments (length (arguments_of line)))
 
--- a word that may stand once stands again
+-- a word that a block may have once is there again
 abbrev pub is_repeated : List ItemLines → Rule → Bool
 is_repeated items rule = rule.is_once && has_word_of rule items
 
--- a word that has to stand does not
+-- a word that the block has to have is not there
 abbrev pub is_missing : List ItemLines → Rule → Bool
 is_missing items rule = is_required rule.need && not (has_word_of rule items)
 
@@ -120,7 +120,7 @@ line_faults so_far line =
 abbrev pub fault_at : SoFar → WordLine → Option ℕ
 fault_at so_far line = least_kind (line_faults so_far line)
 
--- the next line does not stand in an enclosed block of rows
+-- the next line is not in an enclosed block of rows
 abbrev pub is_outermost : Below → Bool
 is_outermost Words = true
 is_outermost Rows = true
@@ -135,7 +135,7 @@ abbrev pub line_count : List ℕ → ℕ
 line_count text = length (runs is_line_feed 0 text)
 
 -- A file is read line by line, with the lines above each one in view, up to the first that has a fault or that closes
--- the file; what stands below it is not read. A file that ends before is not closed, at the line after its last. The
+-- the file; what is below it is not read. A file that ends before is not closed, at the line after its last. The
 -- answer is the block of the file, or the line and the kind of the first fault.
 abbrev pub read_below : SoFar → List WordLine → List WordLine → ℕ → Result BlockLines (ℕ × ℕ)
 read_below first above [] count = Err (count + 1, NOT_CLOSED)

@@ -17,7 +17,7 @@ after_first (word ∷ words) = words
 abbrev pub head_of : WordLine → List ℕ
 head_of line = (first_of line.words).bytes
 
--- what stands behind the word at the head
+-- the words behind the word at the head
 abbrev pub arguments_of : WordLine → List Run
 arguments_of line = after_first line.words
 

@@ -18,6 +18,6 @@ on_line line word = record { word = word; line = line }
 abbrev pub name_of : ℕ → Span → Name
 name_of line span = record { span = span; line = line }
 
--- what a name in a text stands for
+-- a name with its bytes in a text
 abbrev pub name_at : List ℕ → Name → NameWord
 name_at text name = on_line name.line (run_at text name.span)

@@ -1,4 +1,4 @@
--- The numbers of the input files: what is wrong with a word, and what it stands for.
+-- The numbers of the input files: what is wrong with a word, and what it means.
 use Rattle.std.specs.Prelude.{ℕ, ◌*◌, ◌+◌, ◌^◌, ◌&&◌, ◌≤◌, ◌≤ℤ◌, neg_ℤ, ℤ, pos, negsuc, suc, Bool, true, false, not, List, [], ◌∷◌}
 use Rattle.std.specs.Prelude.{Option, None, Some, Result, Ok, Err, if◌then◌else◌, nat_le}
 use Rattle.dec_text.specs.Decimals.{Scientific, decimal_of}
@@ -74,7 +74,7 @@ abbrev pub numbers_fault : NumberForm → List (List ℕ) → Option ℕ
 numbers_fault number [] = None
 numbers_fault number (word ∷ words) = lesser (number_fault number word) (numbers_fault number words)
 
--- the whole number that a word stands for, or the other one where the word has a fault
+-- the whole number that a word means, or the other one where the word has a fault
 abbrev pub whole_value : ℕ → ℕ → ℕ → Result ℕ NotWhole → ℕ
 whole_value least most other (Err e) = other
 whole_value least most other (Ok n) = if is_whole_within least most n then n else other
@@ -84,7 +84,7 @@ abbrev pub scaled_or : ℤ → Result ℤ OutOfRange → ℤ
 scaled_or other (Ok value) = value
 scaled_or other (Err e) = other
 
--- the decimal that a word stands for, in units of 10^-places, or the other number where the word has a fault
+-- the decimal that a word means, in units of 10^-places, or the other number where the word has a fault
 abbrev pub decimal_value : ℕ → ℤ → ℤ → ℤ → Result Scientific DecimalFault → ℤ
 decimal_value places least most other (Err e) = other
 decimal_value places least most other (Ok n) = scaled_or other (scaled_within n places least most)
@@ -93,7 +93,7 @@ decimal_value places least most other (Ok n) = scaled_or other (scaled_within n 
 abbrev pub zero : Scientific
 zero = record { negative = false; digits = 0; power = pos 0 }
 
--- the decimal from 0 to ten to a power that a word stands for, or 0 where the word has a fault
+-- the decimal from 0 to ten to a power that a word means, or 0 where the word has a fault
 abbrev pub up_to_value : ℕ → Result Scientific DecimalFault → Scientific
 up_to_value power (Err e) = zero
 up_to_value power (Ok n) = if is_up_to power n then n else zero

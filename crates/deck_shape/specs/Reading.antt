@@ -15,7 +15,7 @@ use Rattle.deck_shape.specs.declared.table.Role.{Role}
 use Rattle.deck_shape.specs.declared.table.Role.TheVariants.{Value, Rows as HasRows, Encloses, BeginsLattice, Closes, Unsupported}
 use Rattle.deck_shape.specs.declared.table.Rule.{Rule}
 
--- what has been read of a file after some of its lines: its block so far, and what may stand on the next line
+-- what has been read of a file after some of its lines: its block so far, and what the next line may be
 pub record SoFar : Type 0 where
   pub block : BlockLines
   pub below : Below
@@ -35,7 +35,7 @@ nothing_read form = record {
   below = Words;
 }
 
--- the block that a line below stands in: that of enclosed rows, or the file's
+-- the block of a line below: that of enclosed rows, or the file's
 abbrev pub form_below : Below → BlockForm → BlockForm
 form_below Words form = form
 form_below Rows form = form
@@ -45,7 +45,7 @@ form_below (Enclosed rows) form = rows
 abbrev pub block_of : SoFar → BlockForm
 block_of so_far = form_below so_far.below so_far.block.form
 
--- the rule of a word line in the block where it stands
+-- the rule of a word line in its block
 abbrev pub rule_at : SoFar → WordLine → Option Rule
 rule_at so_far line = if is_row line then None else rule_for (block_of so_far) (head_of line)
 
@@ -74,7 +74,7 @@ begun line block = record {
   items = [];
 }
 
--- one word line more, and what may stand below it
+-- one word line more, and what may be below it
 abbrev pub with_item : WordLine → Below → SoFar → SoFar
 with_item line below so_far = record {
   block = record so_far.block { items = so_far.block.items ++ record { line = line; rows = [] } ∷ [] };

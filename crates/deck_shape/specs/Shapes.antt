@@ -23,7 +23,7 @@ pub record IsShapeOf (file : FileId) (text : List ℕ) (shape : Shape) : Type 0 
   pub lattice : file ≡ Lattice → IsLatticeForm block.form
 
 -- The fault of a file that was not read: it names the file, and the line and the kind that the definition of its
--- reading gives. Want of memory says nothing of the file.
+-- reading gives. Out of memory says nothing of the file.
 abbrev pub IsFaultOf : {X : Type 0} → FileId → Result X (ℕ × ℕ) → DeckFault → Type 0
 IsFaultOf file read OutOfMemory = Unit {0}
 IsFaultOf file read (Faulty fault) = (fault.file ≡ file) × (read ≡ Err (fault.line, fault.kind))

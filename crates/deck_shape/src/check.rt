@@ -55,7 +55,7 @@ pub(crate) fn is_row(bytes: &[u8], line: &Line) -> bool
     begins_row(head(line).bytes(bytes))
 }
 
-/// The rule of a word line in the block where it stands.
+/// The rule of a word line in its block.
 pub(crate) fn rule_at(reading: &Reading, bytes: &[u8], line: &Line) -> Option<&'static Rule>
     ensures { option_copied result ≡ rule_at (reading_at bytes.now reading.now) (line_at bytes.now line.now) }
 {
@@ -81,14 +81,14 @@ pub(crate) fn first_item<'a>(bytes: &[u8], keyword: Keyword, items: &'a [Item]) 
     items.iter().find(|item| has_keyword(bytes, keyword, item))
 }
 
-/// A keyword stands among word lines.
+/// Some word line has a keyword.
 fn stands(bytes: &[u8], keyword: Keyword, items: &[Item]) -> bool
     ensures { result ≡ stands keyword (map (item_at bytes.now) items.now) }
 {
     first_item(bytes, keyword, items).is_some()
 }
 
-/// The other word that counts as a rule's word stands among word lines.
+/// Some word line has the other word that counts as a rule's word.
 fn has_other(bytes: &[u8], need: Need, items: &[Item]) -> bool
     ensures { result ≡ has_other need (map (item_at bytes.now) items.now) }
 {
@@ -98,7 +98,7 @@ fn has_other(bytes: &[u8], need: Need, items: &[Item]) -> bool
     }
 }
 
-/// The word of a rule stands among word lines, or the other word that counts as the same.
+/// Some word line has the word of a rule, or the other word that counts as the same.
 fn has_word_of(bytes: &[u8], rule: &Rule, items: &[Item]) -> bool
     ensures { result ≡ has_word_of rule.now (map (item_at bytes.now) items.now) }
 {
@@ -145,7 +145,7 @@ fn has_other_count(line: &Line, rule: &Rule) -> bool
     !allows(rule.arguments, argument_count(line))
 }
 
-/// A word that may stand once stands again.
+/// A word that a block may have once is there again.
 fn is_repeated(bytes: &[u8], items: &[Item], rule: &Rule) -> bool
     ensures { result ≡ is_repeated (map (item_at bytes.now) items.now) rule.now }
 {

@@ -6,7 +6,7 @@ pub const NOT_BUILT: u8 = 0;
 /// The file is not there; line 0.
 pub const FILE_ABSENT: u8 = 1;
 
-/// The file has more than 16,777,216 bytes; line 0.
+/// The file has more than `MAX_FILE_BYTES` bytes; line 0.
 pub const FILE_TOO_LONG: u8 = 2;
 
 /// A row before any word line, or below a word that has no rows.
@@ -21,7 +21,7 @@ pub const UNSUPPORTED_WORD: u8 = 5;
 /// The word takes another number of arguments.
 pub const ARGUMENT_COUNT: u8 = 6;
 
-/// The word stands a second time in its block.
+/// The block has the word already, and may have it once only.
 pub const REPEATED_WORD: u8 = 7;
 
 /// The block is closed, and a word that it must have is missing.
@@ -54,7 +54,7 @@ pub const ROW_COUNT: u8 = 16;
 /// A row has another number of words, or a word of another form.
 pub const ROW_FORM: u8 = 17;
 
-/// A name stands twice in a list.
+/// A list has a name twice.
 pub const REPEATED_NAME: u8 = 18;
 
 /// A species is named `*` or `&`.
@@ -72,13 +72,13 @@ pub const BAD_SITE: u8 = 25;
 /// A site is joined to itself, by the repeats of the cell if need be.
 pub const SELF_NEIGHBOUR: u8 = 26;
 
-/// A site has more than 32 neighbours.
+/// A site has more than `MAX_NEIGHBOURS` neighbours.
 pub const TOO_MANY_NEIGHBOURS: u8 = 27;
 
 /// A row of `lattice_structure` names a neighbour whose row does not name its site.
 pub const ONE_SIDED: u8 = 28;
 
-/// The repeats of the cell give more than 65,536 sites.
+/// The repeats of the cell give more than `MAX_SITES` sites.
 pub const TOO_MANY_SITES: u8 = 29;
 
 /// A site type is no number from 1 to `n_site_types` and no name of a type.

@@ -1,9 +1,9 @@
-//! The shape of the input files: which words stand in which block, with their rows, and the first fault of form.
+//! The shape of the input files: which words each block has, with their rows, and the first fault of form.
 //!
 //! `read_shape` gives exactly the block of a file, or exactly its first fault of form. The words of the blocks are
-//! tables of data, which the definitions read too. Beside them stands what the readers of all files share: the words and
+//! tables of data, which the definitions read too. Beside them is what the readers of all files share: the words and
 //! names behind a keyword, the form of a word by a table, what is wrong with the word of a number, or with a list, and
-//! what a word stands for. A name is known by its place in the bytes of its file. It stands on dec_text and kmc_base.
+//! what a word means. A name is known by its place in the bytes of its file. The crate uses dec_text and kmc_base.
 #![tactic(auto)]
 
 mod check;
@@ -31,7 +31,4 @@ pub use number::{
 };
 pub use reader::read_shape;
 pub use shape::{Block, Item, Shape};
-pub use table::BlockForm;
-
-#[cfg(test)]
-mod tests;
+pub use table::{Arguments, BlockForm, Need, Role, Rule};

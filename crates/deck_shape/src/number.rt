@@ -145,7 +145,7 @@ pub fn numbers_fault(number: NumberForm, bytes: &[u8], words: &[Span]) -> Option
     kind
 }
 
-/// The whole number from `least` to `most` that a word stands for, or `other` where the word has a fault.
+/// The whole number from `least` to `most` that a word means, or `other` where the word has a fault.
 pub fn whole_value(least: u64, most: u64, other: u64, word: &[u8]) -> u64
     ensures { result ≡ whole_value least most other (whole_number word.now) }
 {
@@ -155,7 +155,7 @@ pub fn whole_value(least: u64, most: u64, other: u64, word: &[u8]) -> u64
     }
 }
 
-/// The decimal that a word stands for, in units of `10^-places` and from `least` to `most` of them, or `other` where
+/// The decimal that a word means, in units of `10^-places` and from `least` to `most` of them, or `other` where
 /// the word has a fault.
 pub fn decimal_value(places: u32, least: i128, most: i128, other: i128, word: &[u8]) -> i128
     requires places { places ≤ 27 }
@@ -169,7 +169,7 @@ pub fn decimal_value(places: u32, least: i128, most: i128, other: i128, word: &[
     }
 }
 
-/// The decimal from 0 to `10^power` that a word stands for, or 0 where the word has a fault.
+/// The decimal from 0 to `10^power` that a word means, or 0 where the word has a fault.
 pub fn up_to_value(power: u32, word: &[u8]) -> Decimal
     requires { power ≤ 18 }
     ensures { result ≡ up_to_value power (decimal_of word.now) }

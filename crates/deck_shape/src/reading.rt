@@ -11,7 +11,7 @@ use dec_text::{Line, Span};
 use kmc_base::{FileId, Sequence, OutOfMemory};
 use std::alloc::Global;
 
-/// What may stand on the next line.
+/// What the next line may be.
 #[derive(Clone, Copy, Debug, PartialEq, Eq)]
 pub(crate) enum Below {
     /// A word line.
@@ -88,7 +88,7 @@ impl Reading {
         }
     }
 
-    /// The block that the next line stands in.
+    /// The block of the next line.
     pub(crate) fn block(&self) -> BlockForm
         ensures { (text : List ℕ) → result ≡ block_of (reading_at text self.now) }
     {

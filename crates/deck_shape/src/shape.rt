@@ -3,7 +3,7 @@ ghost use Rattle.std.specs.List.{find};
 ghost use Rattle.std.specs.Option.{option_map};
 ghost use Rattle.dec_text.specs.Spans.{bytes_at, line_at, run_at};
 ghost use Rattle.deck_shape.specs.Blocks.{block_at, has_keyword, item_at};
-ghost use Rattle.deck_shape.specs.Items.{list_in, names_in, names_on, runs_behind, runs_in, words_behind, words_of};
+ghost use Rattle.deck_shape.specs.WordLines.{list_in, names_in, names_on, runs_behind, runs_in, words_behind, words_of};
 ghost use Rattle.deck_shape.specs.LineWords.{arguments_of, head_of};
 ghost use Rattle.deck_shape.specs.Names.{name_at};
 

@@ -37,14 +37,14 @@ pub enum Arguments {
     Any,
 }
 
-/// Whether a word has to stand in its block.
+/// Whether a block has to have a word.
 #[derive(Clone, Copy, Debug, PartialEq, Eq)]
 pub enum Need {
     /// It may be absent.
     Optional,
-    /// It has to stand.
+    /// The block has to have it.
     Required,
-    /// This word or the other one has to stand. The two count as one word.
+    /// The block has to have this word or the other one. The two count as one word.
     ThisOr(Keyword),
 }
 
@@ -72,9 +72,9 @@ pub struct Rule {
     pub keyword: Keyword,
     /// How many arguments it takes.
     pub arguments: Arguments,
-    /// It stands at most once in its block.
+    /// A block has it at most once.
     pub is_once: bool,
-    /// Whether it has to stand.
+    /// Whether a block has to have it.
     pub need: Need,
     /// What it does.
     pub role: Role,
@@ -405,7 +405,7 @@ pub const LATTICE_STRUCTURE: [Rule; 1] = [Rule {
 
 impl BlockForm {
     /// The words of the block.
-    pub(crate) fn rules(self) -> &'static [Rule]
+    pub fn rules(self) -> &'static [Rule]
         ensures { result.now ≡ rules_of self }
     {
         match self {

@@ -11,7 +11,7 @@ use Rattle.dec_text.specs.Lines.{Run}
 use Rattle.dec_text.specs.Wholes.{whole_number}
 use Rattle.deck_shape.specs.Blocks.{BlockLines, ItemLines, has_keyword, stands}
 use Rattle.deck_shape.specs.Forms.{form_of}
-use Rattle.deck_shape.specs.Items.{list_in, words_behind, words_of}
+use Rattle.deck_shape.specs.WordLines.{list_in, words_behind, words_of}
 use Rattle.deck_shape.specs.Keywords.{spelling}
 use Rattle.deck_shape.specs.LineFaults.{is_missing}
 use Rattle.deck_shape.specs.LineWords.{arguments_of, head_of}

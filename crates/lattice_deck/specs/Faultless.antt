@@ -3,7 +3,7 @@
 use Rattle.std.specs.Prelude.{ℕ, ◌≡◌, ◌≤◌, ◌*◌, IsSomeAnd, false, List, length, Option, None, Some}
 use Rattle.dec_text.specs.Lines.{WordLine}
 use Rattle.deck_shape.specs.Blocks.{ItemLines}
-use Rattle.deck_shape.specs.Items.{list_in, words_behind}
+use Rattle.deck_shape.specs.WordLines.{list_in, words_behind}
 use Rattle.deck_shape.specs.Lists.{names_repeat}
 use Rattle.deck_shape.specs.declared.keyword.Keyword.TheVariants.{HexagonalPeriodic, LatticeStructure, NeighboringStructure}
 use Rattle.deck_shape.specs.declared.keyword.Keyword.TheVariants.{RectangularPeriodic, SiteTypeNames, SiteTypes}

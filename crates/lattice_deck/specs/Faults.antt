@@ -4,7 +4,7 @@ use Rattle.std.specs.Option.{option_map}
 use Rattle.dec_text.specs.Lines.{WordLine}
 use Rattle.deck_shape.specs.Blocks.{BlockLines, ItemLines}
 use Rattle.deck_shape.specs.Forms.{form_of}
-use Rattle.deck_shape.specs.Items.{words_of}
+use Rattle.deck_shape.specs.WordLines.{words_of}
 use Rattle.deck_shape.specs.LineWords.{head_of}
 use Rattle.deck_shape.specs.Lists.{fault_if, has_other_length}
 use Rattle.deck_shape.specs.Numbers.{lesser, number_fault, numbers_fault}

@@ -4,7 +4,7 @@ use Rattle.std.specs.List.{find}
 use Rattle.std.specs.Option.{option_map_or}
 use Rattle.dec_text.specs.Lines.{WordLine}
 use Rattle.deck_shape.specs.Blocks.{BlockLines, ItemLines, has_keyword}
-use Rattle.deck_shape.specs.Items.{list_in, names_in, words_behind}
+use Rattle.deck_shape.specs.WordLines.{list_in, names_in, words_behind}
 use Rattle.deck_shape.specs.LineWords.{first_of, after_first}
 use Rattle.deck_shape.specs.Names.{NameWord, name_at, on_line}
 use Rattle.deck_shape.specs.declared.keyword.Keyword.{Keyword}

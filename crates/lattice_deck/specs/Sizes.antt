@@ -4,7 +4,7 @@ use Rattle.std.specs.Prelude.{option_and_then}
 use Rattle.kmc_base.specs.declared.limits.TheConstants.{MAX_SITES}
 use Rattle.dec_text.specs.Wholes.{whole_number}
 use Rattle.deck_shape.specs.Blocks.{ItemLines}
-use Rattle.deck_shape.specs.Items.{words_behind}
+use Rattle.deck_shape.specs.WordLines.{words_behind}
 use Rattle.deck_shape.specs.Lists.{fault_if}
 use Rattle.deck_shape.specs.Numbers.{lesser, numbers_fault, whole_value}
 use Rattle.deck_shape.specs.declared.keyword.Keyword.{Keyword}

@@ -3,8 +3,7 @@
 //!
 //! `is_energetics` says whether an energetics file is its opening and its closing word. `read_mechanism` gives exactly the
 //! steps of a mechanism file, each on one site and over the species of a book, or says that the text is not of the plain
-//! form. Each file is read in one pass from its front. The crate stands on `species_book` for the names of species, and on
-//! `kmc_base`.
+//! form. Each file is read in one pass from its front. The crate uses `species_book` for the names of species, and `kmc_base`.
 #![tactic(auto)]
 
 mod energetics;
@@ -16,6 +15,3 @@ mod text;
 pub use energetics::is_energetics;
 pub use mechanism::read_mechanism;
 pub use step_text::StepText;
-
-#[cfg(test)]
-mod tests;

@@ -8,7 +8,7 @@ use Rattle.std.proofs.lemmas.Bool.{cases_Bool, eqb-true, false≢true}
 use Rattle.std.proofs.lemmas.List.{length-map}
 use Rattle.deck_shape.specs.Blocks.{ItemLines, has_keyword, has_other, stands}
 use Rattle.deck_shape.specs.Forms.{form_of}
-use Rattle.deck_shape.specs.Items.{words_behind, words_of}
+use Rattle.deck_shape.specs.WordLines.{words_behind, words_of}
 use Rattle.deck_shape.specs.Keywords.{spelling}
 use Rattle.deck_shape.specs.LineFaults.{is_missing, is_required}
 use Rattle.deck_shape.specs.LineWords.{arguments_of, head_of}

@@ -11,7 +11,7 @@ use Rattle.dec_text.specs.Wholes.{whole_number}
 use Rattle.dec_text.specs.declared.faults.NotWhole.{NotWhole}
 use Rattle.deck_shape.specs.Blocks.{BlockLines, ItemLines, has_keyword, stands}
 use Rattle.deck_shape.specs.Forms.{form_of}
-use Rattle.deck_shape.specs.Items.{names_on, words_of}
+use Rattle.deck_shape.specs.WordLines.{names_on, words_of}
 use Rattle.deck_shape.specs.Keywords.{spelling}
 use Rattle.deck_shape.specs.LineWords.{arguments_of}
 use Rattle.deck_shape.specs.Names.{on_line}

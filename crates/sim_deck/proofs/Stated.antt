@@ -8,7 +8,7 @@ use Rattle.dec_text.specs.Decimals.{decimal_of}
 use Rattle.dec_text.specs.Wholes.{whole_number}
 use Rattle.deck_shape.specs.Blocks.{BlockLines, ItemLines, has_keyword}
 use Rattle.deck_shape.specs.Forms.{form_of}
-use Rattle.deck_shape.specs.Items.{list_in, words_behind, words_of}
+use Rattle.deck_shape.specs.WordLines.{list_in, words_behind, words_of}
 use Rattle.deck_shape.specs.Keywords.{spelling}
 use Rattle.deck_shape.specs.LineFaults.{is_missing}
 use Rattle.deck_shape.specs.Numbers.{decimal_value, number_fault, numbers_fault, up_to_value, whole_value, zero}

@@ -6,7 +6,7 @@ use Rattle.dec_text.specs.Wholes.{whole_number}
 use Rattle.deck_shape.specs.Blocks.{BlockLines, ItemLines, stands}
 use Rattle.deck_shape.specs.FirstFault.{fault_or, line_fault}
 use Rattle.deck_shape.specs.Forms.{form_of}
-use Rattle.deck_shape.specs.Items.{words_behind, words_of}
+use Rattle.deck_shape.specs.WordLines.{words_behind, words_of}
 use Rattle.deck_shape.specs.LineWords.{head_of}
 use Rattle.deck_shape.specs.Tables.{same_word}
 use Rattle.deck_shape.specs.declared.keyword.Keyword.{Keyword}

@@ -6,7 +6,7 @@ use Rattle.dec_text.specs.Decimals.{Scientific, decimal_of}
 use Rattle.dec_text.specs.Scaled.{scaled_value}
 use Rattle.dec_text.specs.Wholes.{whole_number}
 use Rattle.deck_shape.specs.Blocks.{ItemLines}
-use Rattle.deck_shape.specs.Items.{list_in, words_behind}
+use Rattle.deck_shape.specs.WordLines.{list_in, words_behind}
 use Rattle.deck_shape.specs.Tables.{same_word}
 use Rattle.deck_shape.specs.declared.keyword.Keyword.TheVariants.{GasEnergies, GasMolarFracs, GasSpecsNames, MaxSteps, MaxTime}
 use Rattle.deck_shape.specs.declared.keyword.Keyword.TheVariants.{NGasSpecies, NSurfSpecies, Pressure, ProcessStatistics, RandomSeed}

@@ -4,7 +4,7 @@ use Rattle.std.specs.Option.{option_map_or}
 use Rattle.dec_text.specs.Decimals.{Scientific, decimal_of}
 use Rattle.dec_text.specs.Wholes.{whole_number}
 use Rattle.deck_shape.specs.Blocks.{BlockLines, ItemLines}
-use Rattle.deck_shape.specs.Items.{list_in, names_in, words_behind}
+use Rattle.deck_shape.specs.WordLines.{list_in, names_in, words_behind}
 use Rattle.deck_shape.specs.Names.{NameWord, name_at}
 use Rattle.deck_shape.specs.declared.keyword.Keyword.{Keyword}
 use Rattle.deck_shape.specs.declared.keyword.Keyword.TheVariants.{RandomSeed, Temperature, Pressure, GasSpecsNames, GasEnergies}

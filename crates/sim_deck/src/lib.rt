@@ -13,8 +13,6 @@ mod reader;
 mod samplings;
 mod values;
 
+pub use forms::{Count, FORMS, Form, NEEDED_LISTS, NeededList};
 pub use part::{Plan, Sampling, SimPart};
 pub use reader::read;
-
-#[cfg(test)]
-mod tests;

@@ -1,9 +1,9 @@
--- the place of a name is where it stands, and there is none exactly where it stands nowhere
+-- the place of a name is where the list has it, and there is none if and only if the list has it nowhere
 use Rattle.std.proofs.Common.{◌≡◌, ◌↔◌, ℕ, ◌+◌, ◌<◌, Bool, true, false, not, ◌&&◌, ◌||◌, IsTrue, IsNone, Option, Some, None, List, []}
 use Rattle.std.proofs.Common.{◌∷◌, length, zero, suc, subst, add-zero, refl, ap, ◌∙◌, arith, ⊎_elim}
 use Rattle.std.specs.List.{list_any, position_from, slice_get}
 use Rattle.std.specs.Str.{bytes_eq}
-use Rattle.std.proofs.lemmas.Bool.{cases_Bool}
+use Rattle.std.proofs.lemmas.Bool.{and_parts, cases_Bool, or_parts}
 use Rattle.std.proofs.lemmas.Slice.Eq.{bytes_eq-Decides}
 use Rattle.species_book.specs.Book.{are_distinct, place_of}
 
@@ -13,7 +13,7 @@ same_name a b e = (bytes_eq-Decides a b).0 e
 eq_name : (a b : List ℕ) → a ≡ b → bytes_eq a b ≡ true
 eq_name a b e = (bytes_eq-Decides a b).1 e
 
--- what is found at a place stands there
+-- what is found at a place is there
 record StandsAt (names : List (List ℕ)) (name : List ℕ) (at j : ℕ) : Type 0 where
   pub offset : ℕ
   pub place : j ≡ at + offset
@@ -31,13 +31,9 @@ sound (n ∷ ns) name at j found = ⊎_elim
     record { offset = suc rest.offset; place = omega (arith, rest.place); stands = rest.stands })
     (cases_Bool (bytes_eq n name))
 
-neither : (x y : Bool) → (x || y) ≡ false → (x ≡ false) × (y ≡ false)
-neither true y e = absurd (let f : ⊥ = cc in f)
-neither false y e = (refl, e)
-
-both : (x y : Bool) → (not x && y) ≡ true → (x ≡ false) × (y ≡ true)
-both true y e = absurd (let f : ⊥ = cc in f)
-both false y e = (refl, e)
+is_false : (x : Bool) → not x ≡ true → x ≡ false
+is_false true e = cc
+is_false false e = refl
 
 -- no member of a list is a name that differs from each
 differs : (names : List (List ℕ)) (name other : List ℕ) (i : ℕ) → slice_get names i ≡ Some name
@@ -45,8 +41,8 @@ differs : (names : List (List ℕ)) (name other : List ℕ) (i : ℕ) → slice_
 differs [] name other i stands none = absurd (let e : ⊥ = cc in e)
 differs (n ∷ ns) name other zero stands none =
     let same : n ≡ name = cc in
-    subst (λ (m : List ℕ). bytes_eq other m ≡ false) same (neither (bytes_eq other n) _ none).0
-differs (n ∷ ns) name other (suc i) stands none = differs ns name other i stands (neither (bytes_eq other n) _ none).1
+    subst (λ (m : List ℕ). bytes_eq other m ≡ false) same (or_parts (bytes_eq other n) _ none).0
+differs (n ∷ ns) name other (suc i) stands none = differs ns name other i stands (or_parts (bytes_eq other n) _ none).1
 
 complete : (names : List (List ℕ)) (name : List ℕ) (at i : ℕ) → are_distinct names ≡ true
     → slice_get names i ≡ Some name → position_from (λ n. bytes_eq n name) at names ≡ Some (at + i)
@@ -55,9 +51,10 @@ complete (n ∷ ns) name at zero distinct stands =
     let same : n ≡ name = cc in
     rw (eq_name n name same, add-zero) refl
 complete (n ∷ ns) name at (suc i) distinct stands =
-    let parts = both (list_any (λ m. bytes_eq n m) ns) (are_distinct ns) distinct in
+    let others = list_any (λ m. bytes_eq n m) ns in
+    let parts = and_parts (not others) (are_distinct ns) distinct in
     let place : at + 1 + i ≡ at + suc i = omega arith in
-    rw (differs ns name n i stands parts.0) (complete ns name (at + 1) i parts.1 stands ∙ ap Some place)
+    rw (differs ns name n i stands (is_false others parts.0)) (complete ns name (at + 1) i parts.1 stands ∙ ap Some place)
 
 pub place_found : (names : List (List ℕ)) (name : List ℕ) → IsTrue (are_distinct names) → (i : ℕ)
     → (place_of names name ≡ Some i) ↔ (slice_get names i ≡ Some name)

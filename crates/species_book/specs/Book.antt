@@ -3,6 +3,7 @@ use Rattle.std.specs.List.{list_any, position_from}
 use Rattle.std.specs.Str.{bytes_eq}
 use Rattle.std.specs.Global.{Vec}
 use Rattle.kmc_base.specs.declared.ids.SpeciesId.{SpeciesId}
+use Rattle.kmc_base.specs.declared.limits.TheConstants.{MAX_SPECIES}
 
 -- the species of a deck: the names of gas species and of surface species, and how many dentates (sites that one
 -- adsorbate occupies) each of the latter has
@@ -15,7 +16,7 @@ pub record Book : Type 0 where
 abbrev pub names_of : List (Vec ℕ) → List (List ℕ)
 names_of names = map (λ name. name.items) names
 
--- whether no name stands twice
+-- whether no name is there twice
 abbrev pub are_distinct : List (List ℕ) → Bool
 are_distinct [] = true
 are_distinct (n ∷ ns) = not (list_any (λ m. bytes_eq n m) ns) && are_distinct ns
@@ -28,11 +29,11 @@ place_of names name = position_from (λ n. bytes_eq n name) 0 names
 abbrev pub species : ℕ → SpeciesId
 species place = record { 0 = place }
 
--- What every book keeps: names differ in each list, no list has more than 64, and each surface species has
+-- What every book keeps: names differ in each list, no list has more than MAX_SPECIES, and each surface species has
 -- its number of dentates.
 pub record IsBook (b : Book) : Type 0 where
   pub gas_differ : IsTrue (are_distinct b.gas)
   pub surface_differ : IsTrue (are_distinct b.surface)
-  pub gas_few : length b.gas ≤ 64
-  pub surface_few : length b.surface ≤ 64
+  pub gas_few : length b.gas ≤ MAX_SPECIES
+  pub surface_few : length b.surface ≤ MAX_SPECIES
   pub dentates_match : length b.dentates ≡ length b.surface

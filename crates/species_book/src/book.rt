@@ -2,7 +2,7 @@ ghost use Rattle.std.specs.Prelude.{◌≡◌, ◌≤◌, ◌<◌, ◌↔◌, �
 ghost use Rattle.std.specs.Option.{option_map};
 ghost use Rattle.species_book.specs.Book.{are_distinct, names_of, place_of, species};
 
-use kmc_base::SpeciesId;
+use kmc_base::{MAX_SPECIES, SpeciesId};
 use std::marker::Model;
 
 /// The names of a deck's gas species and surface species, and the dentates of the latter.
@@ -25,12 +25,12 @@ impl Model for SpeciesBook {
 
 impl SpeciesBook {
     /// A book of these names, each in the order of the deck; `dentates` has how many dentates each surface
-    /// species has. A name stands once in its list, and no list has more than 64.
+    /// species has. No list has a name twice, or more than `MAX_SPECIES` names.
     pub fn new(gas: Vec<Vec<u8>>, surface: Vec<Vec<u8>>, dentates: Vec<u8>) -> SpeciesBook
         requires gas_differ { IsTrue (are_distinct (names_of gas.items)) }
         requires surface_differ { IsTrue (are_distinct (names_of surface.items)) }
-        requires gas_few { length gas.items ≤ 64 }
-        requires surface_few { length surface.items ≤ 64 }
+        requires gas_few { length gas.items ≤ MAX_SPECIES }
+        requires surface_few { length surface.items ≤ MAX_SPECIES }
         requires dentates_match { length dentates.items ≡ length surface.items }
         ensures gas { result.gas ≡ names_of gas.items }
         ensures surface { result.surface ≡ names_of surface.items }
@@ -72,7 +72,7 @@ impl SpeciesBook {
     /// The names of the gas species, in the order of their places.
     pub fn gas_names(&self) -> &[Vec<u8>]
         ensures names { names_of result.now ≡ self.now.gas }
-        ensures few { length result.now ≤ 64 }
+        ensures few { length result.now ≤ MAX_SPECIES }
     {
         self.gas.as_slice()
     }
@@ -80,7 +80,7 @@ impl SpeciesBook {
     /// The names of the surface species, in order of their ids.
     pub fn surface_names(&self) -> &[Vec<u8>]
         ensures names { names_of result.now ≡ self.now.surface }
-        ensures few { length result.now ≤ 64 }
+        ensures few { length result.now ≤ MAX_SPECIES }
         ensures dentates_match { length self.now.dentates ≡ length self.now.surface }
     {
         self.surface.as_slice()
@@ -90,7 +90,7 @@ impl SpeciesBook {
 /// The place of a name in a list whose names differ.
 fn find(names: &[Vec<u8>], name: &[u8]) -> Option<u8>
     requires differ { IsTrue (are_distinct (names_of names.now)) }
-    requires few { length names.now ≤ 64 }
+    requires few { length names.now ≤ MAX_SPECIES }
     ensures place { result ≡ place_of (names_of names.now) name.now }
     ensures found { (i : ℕ) → (result ≡ Some i) ↔ (slice_get (names_of names.now) i ≡ Some name.now) }
     ensures none { IsNone result ↔ ((i : ℕ) → slice_get (names_of names.now) i ≡ Some name.now → ⊥) }
@@ -100,7 +100,7 @@ fn find(names: &[Vec<u8>], name: &[u8]) -> Option<u8>
 
 /// The first place of a name in a list.
 fn place_of(names: &[Vec<u8>], name: &[u8]) -> Option<u8>
-    requires { length names.now ≤ 64 }
+    requires { length names.now ≤ MAX_SPECIES }
     ensures { result ≡ place_of (names_of names.now) name.now }
 {
     for (place, candidate) in names.iter().enumerate() {

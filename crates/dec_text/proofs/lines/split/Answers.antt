@@ -1,6 +1,6 @@
 use Rattle.std.proofs.Common.{◌≡◌, ◌∙◌, ap, [], map, ◌++◌}
 use Rattle.std.proofs.lemmas.List.{append-nil}
-use Rattle.dec_text.proofs.Words.{map-plain_line}
+use Rattle.dec_text.proofs.Spans.{map-plain_line}
 use Rattle.dec_text.specs.Lines.{plain_line}
 use Rattle.dec_text.specs.Places.{lines_below}
 use Rattle.dec_text.proofs.lines.split.Goals as goal

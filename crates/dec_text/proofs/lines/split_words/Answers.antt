@@ -1,7 +1,7 @@
 use Rattle.std.proofs.Common.{arith, ◌<◌}
 use Rattle.std.proofs.lemmas.List.Elements.{All-push}
 use Rattle.dec_text.proofs.Runs.{next_word, no_word}
-use Rattle.dec_text.proofs.Words.{word_pushed}
+use Rattle.dec_text.proofs.Spans.{word_pushed}
 use Rattle.dec_text.specs.Bytes.{is_blank}
 use Rattle.dec_text.specs.Spans.{IsWithin}
 use Rattle.dec_text.proofs.lines.split_words.Goals as goal

@@ -1,7 +1,7 @@
 use Rattle.std.proofs.Common.{◌≡◌, false, None, [], ◌∷◌, ap, sym, ◌∙◌, arith}
 use Rattle.dec_text.specs.Places.{lines_below}
 use Rattle.dec_text.specs.Spans.{line_at}
-use Rattle.deck_shape.proofs.Below.{passed_line}
+use Rattle.deck_shape.proofs.PassedLines.{passed_line}
 use Rattle.deck_shape.specs.LineFaults.{closes_file, fault_at, line_count, read_below}
 use Rattle.deck_shape.specs.Views.{reading_at}
 use Rattle.deck_shape.proofs.reader.read_block.Goals as goal

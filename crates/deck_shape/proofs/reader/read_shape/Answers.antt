@@ -2,7 +2,7 @@ use Rattle.std.proofs.Common.{◌≡◌, ◌∙◌, Some, ap, map, sym}
 use Rattle.deck_shape.specs.Blocks.{block_at}
 use Rattle.deck_shape.specs.Reading.{first_block}
 use Rattle.deck_shape.proofs.FileForms.{lattice_form}
-use Rattle.deck_shape.proofs.ShapeFacts.{whole_block}
+use Rattle.deck_shape.proofs.WholeBlocks.{whole_block}
 use Rattle.deck_shape.proofs.reader.read_shape.Goals as goal
 
 pub returns-clause-shape : goal.returns-clause-shape

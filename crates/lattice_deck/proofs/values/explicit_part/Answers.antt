@@ -1,6 +1,6 @@
 use Rattle.std.proofs.Common.{◌≡◌, ◌∙◌, map}
 use Rattle.deck_shape.specs.Blocks.{block_at}
-use Rattle.deck_shape.specs.Items.{list_in}
+use Rattle.deck_shape.specs.WordLines.{list_in}
 use Rattle.deck_shape.specs.declared.keyword.Keyword.TheVariants.{SiteTypeNames}
 use Rattle.lattice_deck.proofs.values.explicit_part.Goals as goal
 

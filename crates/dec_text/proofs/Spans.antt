@@ -1,8 +1,9 @@
--- one more word of a line, and one more line of a text
+-- words and lines by their places in a text
 use Rattle.std.proofs.Common.{◌≡◌, ℕ, ◌+◌, true, false, List, [], ◌∷◌, ◌++◌, map, refl, ap, sym, ◌∙◌, ⊎_elim, append_assoc, if◌then◌else◌, cond, All}
 use Rattle.std.specs.List.{slice_range}
 use Rattle.std.proofs.lemmas.Bool.{cases_Bool}
 use Rattle.std.proofs.lemmas.List.{append-nil, map_push}
+use Rattle.std.proofs.lemmas.Simd.{map-map}
 use Rattle.std.proofs.lemmas.List.Elements.{All-push}
 use Rattle.dec_text.specs.Lines.{Run, WordLine, is_filled, lines_from, plain_line, run, words_of}
 use Rattle.dec_text.specs.Spans.{AreWithin, IsWithin, bytes_at, line_at, plain_line_at, run_at}
@@ -16,11 +17,11 @@ pub word_pushed : (text : List ℕ) (words : List Span) (at stop : ℕ) (left re
 word_pushed text words at stop left rest whole is_left before =
     rw (map_push (run_at text) words (record { start = at; end = stop }), append_assoc, ← is_left) before
 
-map-bytes : (text : List ℕ) (spans : List Span) → map (bytes_at text) spans ≡ map (λ word. word.bytes) (map (run_at text) spans)
-map-bytes text [] = refl
-map-bytes text (s ∷ ss) = ap (λ rest. bytes_at text s ∷ rest) (map-bytes text ss)
+-- the bytes of words are those of the words with their places
+pub map-bytes_at : (text : List ℕ) (spans : List Span) → map (bytes_at text) spans ≡ map (λ word. word.bytes) (map (run_at text) spans)
+map-bytes_at text spans = sym (map-map (λ word. word.bytes) (run_at text) spans)
 
 -- the lines without their places
 pub map-plain_line : (text : List ℕ) (lines : List Line) → map (plain_line_at text) lines ≡ map plain_line (map (line_at text) lines)
 map-plain_line text [] = refl
-map-plain_line text (l ∷ ls) = rw (map-bytes text l.words, map-plain_line text ls) refl
+map-plain_line text (l ∷ ls) = rw (map-bytes_at text l.words, map-plain_line text ls) refl

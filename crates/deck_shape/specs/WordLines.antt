@@ -1,4 +1,4 @@
--- What stands behind the keywords of word lines: words as bytes, and names.
+-- Word lines: what is behind their keywords, as words and as names.
 use Rattle.std.specs.Prelude.{ℕ, List, [], map, Option, unwrap_or}
 use Rattle.std.specs.List.{find}
 use Rattle.std.specs.Option.{option_map, option_map_or}
@@ -12,11 +12,11 @@ use Rattle.deck_shape.specs.declared.keyword.Keyword.{Keyword}
 abbrev pub words_of : ItemLines → List (List ℕ)
 words_of item = map (λ word. word.bytes) (arguments_of item.line)
 
--- the words behind a keyword of the file, where the keyword stands
+-- the words behind a keyword of the file, if it has the keyword
 abbrev pub words_behind : Keyword → List ItemLines → Option (List (List ℕ))
 words_behind keyword items = option_map words_of (find (has_keyword keyword) items)
 
--- the words behind a keyword with their places in the text, where the keyword stands
+-- the words behind a keyword with their places in the text, if the file has the keyword
 abbrev pub runs_behind : Keyword → List ItemLines → Option (List Run)
 runs_behind keyword items = option_map (λ item. arguments_of item.line) (find (has_keyword keyword) items)
 
