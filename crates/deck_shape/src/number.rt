@@ -128,7 +128,9 @@ pub fn number_fault(number: NumberForm, word: &[u8]) -> Option<u8>
 {
     match number {
         NumberForm::Whole(least, most) => whole_kind(least, most, word),
-        NumberForm::Scaled(..) | NumberForm::UpTo(_) | NumberForm::Unused => decimal_kind(number, word),
+        NumberForm::Scaled(..) | NumberForm::UpTo(_) | NumberForm::Unused => decimal_kind(
+            number, word,
+        ),
     }
 }
 

@@ -14,7 +14,7 @@ use crate::reading::{Reading, first_block};
 use crate::shape::{Block, Shape};
 use crate::table::BlockForm;
 use dec_text::{FIRST_LINE, Line, next_line};
-use kmc_base::{FileId, Sequence, OutOfMemory};
+use kmc_base::{FileId, OutOfMemory, Sequence};
 use std::alloc::Global;
 
 /// How many line ends a text has.

@@ -8,7 +8,7 @@ use crate::line_words::{NO_WORD, argument, head};
 use crate::shape::{Block, Item};
 use crate::table::{BlockForm, Role};
 use dec_text::{Line, Span};
-use kmc_base::{FileId, Sequence, OutOfMemory};
+use kmc_base::{FileId, OutOfMemory, Sequence};
 use std::alloc::Global;
 
 /// What the next line may be.

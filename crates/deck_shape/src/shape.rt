@@ -13,7 +13,7 @@ use crate::line_words::{arguments, head};
 use crate::name::{Name, names_of};
 use crate::table::BlockForm;
 use dec_text::{Line, Span};
-use kmc_base::{Sequence, OutOfMemory};
+use kmc_base::{OutOfMemory, Sequence};
 use std::alloc::Global;
 
 /// A word line of a block, with the rows below it.

@@ -1,5 +1,5 @@
 -- the place of a name is where the list has it, and there is none if and only if the list has it nowhere
-use Rattle.std.proofs.Common.{◌≡◌, ◌↔◌, ℕ, ◌+◌, ◌<◌, Bool, true, false, not, ◌&&◌, ◌||◌, IsTrue, IsNone, Option, Some, None, List, []}
+use Rattle.std.proofs.Common.{◌≡◌, ◌↔◌, ℕ, ◌+◌, ◌<◌, Bool, true, false, not, IsTrue, IsNone, Option, Some, None, List, []}
 use Rattle.std.proofs.Common.{◌∷◌, length, zero, suc, subst, add-zero, refl, ap, ◌∙◌, arith, ⊎_elim}
 use Rattle.std.specs.List.{list_any, position_from, slice_get}
 use Rattle.std.specs.Str.{bytes_eq}

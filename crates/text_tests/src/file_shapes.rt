@@ -74,11 +74,7 @@ const LATTICE_FAULTS: [(&str, u32, u8); 9] = [
     ("lattice explicit\nlattice explicit\n", 2, 4),
     ("lattice periodic_cell\nrepeat_cell 3 3\n", 3, 9),
     ("lattice periodic_cell\n1 0\n", 2, 3),
-    (
-        "lattice default_choice\ntriangular_periodic 1 3 3\n",
-        2,
-        5,
-    ),
+    ("lattice default_choice\ntriangular_periodic 1 3 3\n", 2, 5),
     (
         "lattice explicit\nlattice_structure\n1 0 0 A 0\nn_sites 1\n",
         4,
@@ -115,11 +111,7 @@ const CLOSED_WITH_ARGUMENT: [(FileId, &str, u32); 6] = [
         "lattice default_choice\nrectangular_periodic 1 2 2\nend_lattice x\n",
         3,
     ),
-    (
-        FileId::Lattice,
-        "lattice periodic_cell\nend_lattice 1\n",
-        2,
-    ),
+    (FileId::Lattice, "lattice periodic_cell\nend_lattice 1\n", 2),
     (FileId::Lattice, "lattice explicit\nend_lattice 1\n", 2),
     (
         FileId::Lattice,
@@ -265,10 +257,7 @@ const WHOLE_FILES: [(FileId, &str, Words, &str); 4] = [
             ("site_type_names A\n", true),
             ("site_types A\n", true),
             ("site_coordinates\n", false),
-            (
-                "neighboring_structure\nend_neighboring_structure\n",
-                true,
-            ),
+            ("neighboring_structure\nend_neighboring_structure\n", true),
         ],
         "end_lattice\n",
     ),
@@ -318,7 +307,11 @@ fn missing_words(rt: HostRuntime) -> Result<(), Fail> {
         for (place, (word, is_required)) in words.iter().enumerate() {
             let text = without(rt.alloc(), head, words, place, end)?;
             let last = text.iter().filter(|byte| **byte == b'\n').count();
-            let want = if *is_required { Err((last, 8)) } else { Ok(last) };
+            let want = if *is_required {
+                Err((last, 8))
+            } else {
+                Ok(last)
+            };
             assert_eq!(rt; closing_line(&rt, file, &text), want, "{word:?}");
         }
     }

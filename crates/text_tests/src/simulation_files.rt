@@ -118,12 +118,7 @@ fn least_values(rt: HostRuntime) -> Result<(), Fail> {
 }
 
 /// The line of a list with 64 members: a prefix and the numbers from 1 to this one, which then repeats.
-fn list_of(
-    alloc: Global,
-    keyword: &str,
-    prefix: &str,
-    most: u32,
-) -> Result<Vec<u8>, AllocError> {
+fn list_of(alloc: Global, keyword: &str, prefix: &str, most: u32) -> Result<Vec<u8>, AllocError> {
     let mut line = Vec::from_slice(alloc, keyword.as_bytes())?;
     for index in 1..65u32 {
         let number = index.min(most);

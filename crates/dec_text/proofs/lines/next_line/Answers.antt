@@ -13,7 +13,7 @@ returns-then-not-is_empty-clause-line c =
     ∙ c.loop-at.invariant.left
     ∙ rw c.new.ensures
     (line_found text at.start at.number c.first_cut-end.result c.in_ok-words.words.items
-        c.loop-at-test.true c.first_cut-end.ensures.place c.in_ok-words.ensures.words has)
+    c.loop-at-test.true c.first_cut-end.ensures.place c.in_ok-words.ensures.words has)
 
 pub loop-at-preserved : goal.loop-at-preserved
 loop-at-preserved c =

@@ -1,4 +1,4 @@
-use Rattle.std.proofs.Common.{◌≡◌, false, None, [], ◌∷◌, ap, sym, ◌∙◌, arith}
+use Rattle.std.proofs.Common.{◌≡◌, false, None, [], ◌∷◌, ap, sym, ◌∙◌}
 use Rattle.dec_text.specs.Places.{lines_below}
 use Rattle.dec_text.specs.Spans.{line_at}
 use Rattle.deck_shape.proofs.PassedLines.{passed_line}
