@@ -1,4 +1,4 @@
--- Each kind of step keeps the rule, and tells what its play says.
+-- Each kind of step keeps the rule, and gives what its play says.
 use Rattle.std.proofs.Common.{◌≡◌, ℕ, ◌+◌, ◌*◌, ◌^◌, ◌<◌, ◌≤◌, List, [], ◌∷◌, length, get_or, set, Bool, true, false, Option, Some, None}
 use Rattle.std.proofs.Common.{sym, refl, ap, subst, ◌∙◌, arith, bit_and, bit_or, eqb, length-set, get_or-set_same, get_or-set_other}
 use mathlib.Core.Logic.{dite}
@@ -70,7 +70,7 @@ module _ {B K : Type 0} (is_patch : B → K → Type 0) (done_set : B → ℕ) (
             (subst (λ w. Turning is_patch done_set key (get_or s.words 0 0) w hs vs) (sym here) t);
       }
 
-  -- what a look tells
+  -- what a look gives
   learns : (d word : ℕ) (homes : List (m.Option (Option B))) (views : List (View K)) (id : ℕ) (v : View K)
       → Claiming key d views → Turning is_patch done_set key d word homes views → get_elem? views id ≡ m.some v
       → Learns v word

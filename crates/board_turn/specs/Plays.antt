@@ -1,4 +1,4 @@
--- What each kind of step tells its caller: of the step, the seat before, the word found (at a store, the word stored) and the seat after.
+-- What the caller of each kind of step knows: of the step, the seat before, the word found (at a store, the word stored) and the seat after.
 -- The types of src/rule.rt that name the steps have these as their statements: each call of a board takes such steps alone.
 use Rattle.std.specs.Prelude.{◌≡◌, ◌≢◌, ℕ, ◌<◌, ◌∷◌, Option, Some, false, All, bit_and}
 use Rattle.atomic_table.specs.Table.{Me, Step, rest}

@@ -7,7 +7,7 @@ use Rattle.board_turn.specs.Masks.{mask, holder, Within}
 use Rattle.board_turn.specs.declared.view.View.{View}
 
 module _ {S K : Type 0} where
-  -- it is of the board that stands on this table and has this key
+  -- it is of the board with this table and this key
   abbrev pub IsOf : TableId → K → Seat S (View K) → Type 0
   IsOf table key seat = (seat.table_id ≡ table) × (seat.me.0.key ≡ Some key)
 

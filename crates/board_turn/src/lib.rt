@@ -10,8 +10,8 @@
 //! of the parts says it) whenever they are in the board's slot or with a turn. Nothing is promised of time: not that a
 //! put ever finds the turn free.
 //!
-//! It stands on `atomic_table`, whose steps keep the rule of `specs/Rule.antt`: one word has the claimed pieces, one the
-//! holder of the turn and the done mask, and one slot the parts. No call waits.
+//! The words and the slot are those of an `atomic_table`, whose steps keep the rule of `specs/Rule.antt`: one word has the
+//! claimed pieces, one the holder of the turn and the done mask, and the slot the parts. No call waits.
 #![tactic(auto)]
 
 mod board;
@@ -32,6 +32,3 @@ pub use refused::{Busy, PutRefused};
 pub use rule::Order;
 pub use turn::Turn;
 pub use view::View;
-
-#[cfg(test)]
-mod tests;

@@ -1,4 +1,4 @@
-// What steps on a board.
+// The passes of a board, and the owner that takes them back.
 ghost use Rattle.std.specs.Prelude.{◌≡◌, ◌^◌, ◌<◌, ◌≤◌, [], ◌∷◌, None, true, false};
 ghost use Rattle.board_turn.specs.Masks.{Within};
 

@@ -1,6 +1,6 @@
 use std::collections::LinkedList;
 
-/// What the board's rule says of a pass or of the owner. No value of it is made: it stands in clauses alone, where its
+/// What the board's rule says of a pass or of the owner. No value of it is made: only clauses name it, and there its
 /// numbers have no bound. A mask has bit `p` for piece `p`.
 pub struct View<K> {
     /// The board's key. A view that was joined has none.

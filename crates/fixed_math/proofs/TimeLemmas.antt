@@ -9,12 +9,13 @@ use Rattle.std.proofs.lemmas.Bool.{leb-true, leb-false}
 use Rattle.std.proofs.lemmas.Nat.{shl_below}
 use Rattle.std.proofs.lemmas.Int.{ints, to_z-of_z}
 use Rattle.std.specs.Prelude.{int_le, int_lt}
+use Rattle.kmc_base.specs.declared.limits.TheConstants.{END_OF_TIME}
 use Rattle.kmc_base.specs.declared.firing_time.When.{When}
 use Rattle.kmc_base.specs.declared.firing_time.When.TheVariants.{At, Never}
 use Rattle.fixed_math.specs.Logarithm.{log2_of}
 use Rattle.fixed_math.specs.Gap.{gap_of}
 use Rattle.fixed_math.specs.Exponential.{exp2_of}
-use Rattle.fixed_math.specs.WaitingTime.{scaled_down, mean_wait, wait_of, end_of_time, time_of, IsNeverDue, IsLater}
+use Rattle.fixed_math.specs.WaitingTime.{scaled_down, mean_wait, wait_of, time_of, IsNeverDue, IsLater}
 
 -- ---- the gap
 
@@ -82,11 +83,11 @@ module _ (rate : Option ℤ) (lg : ℤ) (w now : ℕ) (p : ℕ × ℤ) (is_rate 
       let late : int_le (mean_wait lg).1 (pos 120) ≡ false = sym (ap (λ (m : ℕ × ℤ). int_le m.1 (pos 120)) is_mean) ∙ late_test p.1 small t in
       rw is_rate (sym (cond-false _ _ _ (and_left _ _ late)))
 
-  pub time_of-past : end_of_time < now + wait_of lg w → Never ≡ time_of rate w now
+  pub time_of-past : END_OF_TIME < now + wait_of lg w → Never ≡ time_of rate w now
   unfolding time_of
-  time_of-past past = rw is_rate (sym (cond-false _ _ _ (and_right _ _ (lt-leb (now + wait_of lg w) end_of_time past))))
+  time_of-past past = rw is_rate (sym (cond-false _ _ _ (and_right _ _ (lt-leb (now + wait_of lg w) END_OF_TIME past))))
 
-  pub time_of-due : int_lt (pos 120) (to_z w64 (of_z w64 p.1)) ≡ false → now + wait_of lg w ≤ end_of_time
+  pub time_of-due : int_lt (pos 120) (to_z w64 (of_z w64 p.1)) ≡ false → now + wait_of lg w ≤ END_OF_TIME
       → At (now + wait_of lg w) ≡ time_of rate w now
   unfolding time_of
   time_of-due t due =
@@ -112,27 +113,27 @@ is_late q e = omega (arith, ints)
 late_fails : (q : ℤ) → pos 120 <ℤ q → int_le q (pos 120) ≡ false
 late_fails q late = grind (arith, ints)
 
-never_from_test : (lg : ℤ) (w now : ℕ) → (int_le (mean_wait lg).1 (pos 120) && leb (now + wait_of lg w) end_of_time)
+never_from_test : (lg : ℤ) (w now : ℕ) → (int_le (mean_wait lg).1 (pos 120) && leb (now + wait_of lg w) END_OF_TIME)
     ≡ false → IsNeverDue (Some lg) w now
 never_from_test lg w now e =
-    elim (and_cases (int_le (mean_wait lg).1 (pos 120)) (leb (now + wait_of lg w) end_of_time) e) [
+    elim (and_cases (int_le (mean_wait lg).1 (pos 120)) (leb (now + wait_of lg w) END_OF_TIME) e) [
       | inl late ↦ inl (is_late (mean_wait lg).1 late)
-      | inr past ↦ inr (leb-false (now + wait_of lg w) end_of_time past)
+      | inr past ↦ inr (leb-false (now + wait_of lg w) END_OF_TIME past)
     ]
 
 test_from_never : (lg : ℤ) (w now : ℕ) → IsNeverDue (Some lg) w now
-    → (int_le (mean_wait lg).1 (pos 120) && leb (now + wait_of lg w) end_of_time) ≡ false
+    → (int_le (mean_wait lg).1 (pos 120) && leb (now + wait_of lg w) END_OF_TIME) ≡ false
 test_from_never lg w now never =
     elim never [
       | inl late ↦ and_left (int_le (mean_wait lg).1 (pos 120)) _ (late_fails (mean_wait lg).1 late)
-      | inr past ↦ and_right _ (leb (now + wait_of lg w) end_of_time) (lt-leb (now + wait_of lg w) end_of_time past)
+      | inr past ↦ and_right _ (leb (now + wait_of lg w) END_OF_TIME) (lt-leb (now + wait_of lg w) END_OF_TIME past)
     ]
 
 pub time_of-never : (rate : Option ℤ) (w now : ℕ) → (time_of rate w now ≡ Never) ↔ IsNeverDue rate w now
 unfolding time_of
 time_of-never None w now = ((λ _. tt), (λ _. refl))
 time_of-never (Some lg) w now = (
-  cond_both (int_le (mean_wait lg).1 (pos 120) && leb (now + wait_of lg w) end_of_time) (At (now + wait_of lg w))
+  cond_both (int_le (mean_wait lg).1 (pos 120) && leb (now + wait_of lg w) END_OF_TIME) (At (now + wait_of lg w))
       Never (λ t. t ≡ Never → IsNeverDue (Some lg) w now)
       (λ _ e. cc) (λ e _. never_from_test lg w now e),
   (λ h. cond-false _ _ _ (test_from_never lg w now h)),
@@ -146,6 +147,6 @@ pub time_of-later : (rate : Option ℤ) (w now : ℕ) → IsLater now (time_of r
 unfolding time_of
 time_of-later None w now = tt
 time_of-later (Some lg) w now =
-    cond_both (int_le (mean_wait lg).1 (pos 120) && leb (now + wait_of lg w) end_of_time) (At (now + wait_of lg w)) Never (IsLater now)
+    cond_both (int_le (mean_wait lg).1 (pos 120) && leb (now + wait_of lg w) END_OF_TIME) (At (now + wait_of lg w)) Never (IsLater now)
     (λ e. (omega arith, leb-true _ _ (and_parts _ _ e).1))
     (λ _. tt)

@@ -1,14 +1,12 @@
 //! The logarithms, powers of two and waiting times of kmc, in whole numbers alone, so that a run is the
-//! same on every machine. A logarithm is to base 2, in units of 2^-30; times are in as (10^-18 s).
+//! same on every machine. A logarithm is to base 2, in units of 2^-30; times are in attoseconds (10^-18 s).
 //!
 //! Each call is proved equal to its definition in `specs/` on its whole range, with no overflow and no
-//! memory taken. The crate stands on `kmc_base` for the moment at which an instance fires.
+//! memory taken. `kmc_base` has the time at which an instance fires, and the end of time.
 #![tactic(auto)]
 
 mod exponential;
 mod logarithm;
-#[cfg(test)]
-mod tests;
 mod waiting_time;
 
 pub use exponential::exp2;

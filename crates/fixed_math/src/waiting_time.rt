@@ -5,19 +5,16 @@ ghost use Rattle.fixed_math.specs.WaitingTime.{IsLater, IsNeverDue, scaled_down,
 
 use crate::exponential::exp2;
 use crate::logarithm::{LOG2_OF_TEN, log2};
-use kmc_base::When;
+use kmc_base::{END_OF_TIME, When};
 
 /// The natural logarithm of 2, in units of 2^-30.
 const LN_2: u128 = 744_261_118;
 
-/// The base-2 logarithm of a second in as, 10^18, in units of 2^-30.
+/// The base-2 logarithm of a second in attoseconds, 10^18, in units of 2^-30.
 const LOG2_OF_SECOND: i64 = 18 * LOG2_OF_TEN;
 
-/// The greatest exponent q of a mean waiting time that is counted as finite: below 2^121 as.
+/// The greatest exponent q of a mean waiting time that is counted as finite: below 2^121 attoseconds.
 const MAX_EXPONENT: i64 = 120;
-
-/// The end of time, in as: 10^30 as are 10^12 s.
-const END_OF_TIME: u128 = 1_000_000_000_000_000_000_000_000_000_000;
 
 /// The exponential variate of mean 1 that a 64-bit draw `w` gives by inversion: `-ln((w + 1) / 2^64)`, in
 /// units of 2^-30.
@@ -29,14 +26,14 @@ pub fn gap(w: u64) -> u64
     ((below as u128 * LN_2) >> 30) as u64
 }
 
-/// The time at which an instance fires whose waiting time is drawn by `w` at the time `now`, both in as.
+/// The time at which an instance fires whose waiting time is drawn by `w` at the time `now`, in attoseconds.
 ///
-/// Its rate in 1/s has the base-2 logarithm `lg`, in units of 2^-30; None stands for no rate. The waiting time
-/// is at least 1 as. The instance never fires where it has no rate, where its mean waiting time is 2^121 as or
-/// more, or where its time would be past 10^30 as.
+/// Its rate in 1/s has the base-2 logarithm `lg`, in units of 2^-30; None is for an instance without a rate. The
+/// waiting time is at least 1 attosecond. The instance never fires if it has no rate, if its mean waiting time is
+/// 2^121 attoseconds or more, or if it would fire after `END_OF_TIME`.
 pub fn wait(lg: Option<i64>, w: u64, now: u128) -> When
     requires rate { ForSome lg (λ l. unsigned_abs l ≤ 2 ^ 42) }
-    requires time { now ≤ 10 ^ 30 }
+    requires time { now ≤ END_OF_TIME }
     ensures value { result ≡ time_of lg w now }
     ensures never { (result ≡ When.Never) ↔ IsNeverDue lg w now }
     ensures later { IsLater now result }

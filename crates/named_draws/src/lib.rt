@@ -3,13 +3,10 @@
 //! that the name gives, so it depends on the random seed and the name alone, in whatever order the names
 //! are asked for.
 //!
-//! It stands on `rand_chacha`, the cipher as seeded streams with places, and on `rand_core`, the
-//! interface by which a generator is seeded and its words are read.
+//! The cipher is that of `rand_chacha`, as seeded streams with places; `rand_core` has the interface by
+//! which a generator is seeded and its words are read.
 #![tactic(auto)]
 
 mod draws;
 
 pub use draws::Draws;
-
-#[cfg(test)]
-mod tests;

@@ -2,7 +2,7 @@ ghost use Rattle.std.specs.Prelude.{◌≡◌, ℕ, ◌+◌, ◌*◌, ◌<◌, l
 ghost use Rattle.std.specs.Int.{bit_at};
 ghost use Rattle.board_turn.specs.Shown.{IsOf, IsIdle, claims_of};
 
-use crate::{Board, Owner, Parts, Pass, PutRefused, Report};
+use board_turn::{Board, Parts, Pass, PutRefused, Report};
 use kmc_base::OutOfMemory;
 use std::alloc::Global;
 use std::process::Abort;
@@ -113,7 +113,7 @@ fn row(rt: &impl Abort, alloc: Global, once_more: bool) -> Result<(Tally, Report
 }
 
 #[test]
-fn a_put_waits_for_the_turn(rt: HostRuntime) -> Result<(), Fail> {
+fn a_put_while_another_has_the_turn(rt: HostRuntime) -> Result<(), Fail> {
     for (once_more, claimed) in [(false, 3), (true, 7)] {
         let (tally, report) = row(&rt, rt.alloc(), once_more)?;
         assert_eq!(rt; report, Report { claimed, done: 3 });

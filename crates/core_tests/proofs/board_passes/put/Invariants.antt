@@ -1,6 +1,6 @@
 use Rattle.std.proofs.Common.{◌≡◌}
 use Rattle.board_turn.specs.Shown.{IsOf, IsIdle, claims_of}
-use Rattle.board_turn.proofs.tests.put.Given as goal
+use Rattle.core_tests.proofs.board_passes.put.Given as goal
 
 abbrev pub invariant-loop : goal.invariant-loop
 invariant-loop l = record {

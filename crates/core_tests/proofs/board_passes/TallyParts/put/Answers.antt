@@ -4,7 +4,7 @@ use mathlib.Core.Logic.{dite}
 use native.Mathlib.Decide.{ℕ_discrete}
 use Rattle.std.specs.Int.{bit_at}
 use Rattle.std.proofs.lemmas.Nat.Bits.{bit_at_set_same, bit_at_set_other}
-use Rattle.board_turn.proofs.tests.TallyParts.put.Goals as goal
+use Rattle.core_tests.proofs.board_passes.TallyParts.put.Goals as goal
 
 here : (sums : List ℕ) (done piece value : ℕ) → length sums ≡ 5 → piece < 5 → value ≡ 7 * piece
     → get_or (set sums piece value) piece 0 ≡ bit_at (bit_or done (1 * 2 ^ piece % 18446744073709551616)) piece

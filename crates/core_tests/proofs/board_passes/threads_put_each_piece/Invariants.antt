@@ -1,7 +1,7 @@
 use Rattle.std.proofs.Common.{◌≡◌, ◌+◌, length, vec_len}
 use Rattle.std.specs.Prelude.{All}
 use Rattle.board_turn.specs.Shown.{IsOf, IsIdle, joined_numbers, next_number}
-use Rattle.board_turn.proofs.tests.threads_put_each_piece.Given as goal
+use Rattle.core_tests.proofs.board_passes.threads_put_each_piece.Given as goal
 
 abbrev pub invariant-loop-pass : goal.invariant-loop-pass
 invariant-loop-pass g l = record {

@@ -1,5 +1,5 @@
 use Rattle.board_turn.specs.Shown.{IsOf, IsIdle}
-use Rattle.board_turn.proofs.tests.work.Given as goal
+use Rattle.core_tests.proofs.board_passes.work.Given as goal
 
 abbrev pub invariant-loop : goal.invariant-loop
 invariant-loop l = record {

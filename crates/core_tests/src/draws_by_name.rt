@@ -1,14 +1,14 @@
-use crate::Draws;
+use named_draws::Draws;
 use rand_chacha::ChaCha8Rng;
 use rand_core::{Rng, SeedableRng};
 
-// The key of random seed 258: its eight bytes, low byte first, four times.
+/// The key of random seed 258: its eight bytes, low byte first, four times.
 const KEY_OF_258: [u8; 32] = [
     2, 1, 0, 0, 0, 0, 0, 0, 2, 1, 0, 0, 0, 0, 0, 0, 2, 1, 0, 0, 0, 0, 0, 0, 2, 1, 0, 0, 0, 0, 0, 0,
 ];
 
 #[test]
-fn walks_along_streams(rt: HostRuntime) {
+fn words_of_streams(rt: HostRuntime) {
     let mut draws = Draws::new(258);
     for (event, from, count) in [
         (0, 0, 40),
@@ -20,13 +20,13 @@ fn walks_along_streams(rt: HostRuntime) {
         let mut words = ChaCha8Rng::from_seed(KEY_OF_258);
         words.set_stream(event);
         words.set_word_pos(2 * from);
-        for step in 0..count {
+        for place in 0..count {
             let low = u64::from(words.next_u32());
             let high = u64::from(words.next_u32());
             assert_eq!(rt;
-                draws.draw(event, from + step),
+                draws.draw(event, from + place),
                 high << 32 | low,
-                "{event} {from} {step}"
+                "{event} {from} {place}"
             );
         }
     }

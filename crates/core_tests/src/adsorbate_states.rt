@@ -1,0 +1,21 @@
+use kmc_base::{SiteId, SpeciesId};
+use lattice_core::State;
+use pattern_types::Wanted;
+
+/// What a vertex wants that asks for a dentate of an adsorbate.
+pub(crate) fn holds(entity: u8, species: u16, dentate: u8) -> Wanted {
+    Wanted::Holds {
+        entity,
+        species: SpeciesId(species),
+        dentate,
+    }
+}
+
+/// The state of a site that holds a dentate of an adsorbate.
+pub(crate) fn held(species: u16, dentate: u8, home: u32) -> State {
+    State::Holds {
+        species: SpeciesId(species),
+        dentate,
+        home: SiteId(home),
+    }
+}
