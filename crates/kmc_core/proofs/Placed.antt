@@ -1,5 +1,6 @@
 -- An instance that is offered, as the code finds it by its code: its process, and its sites.
 use Rattle.std.proofs.Common.{◌≡◌, ◌≢◌, ℕ, ◌<◌, true, ◌&&◌, List, Some, length, refl, sym, subst, ◌∙◌, arith}
+use Rattle.std.proofs.lemmas.Bool.{and_parts}
 use Rattle.std.proofs.lemmas.List.{get_or_default}
 use Rattle.std.proofs.lemmas.Option.{slice_get_within}
 use Rattle.std.specs.List.{All, AllPairs, Contains}
@@ -14,7 +15,7 @@ use Rattle.kmc_core.specs.declared.deck.PlainProcess.{PlainProcess}
 use Rattle.lattice_core.specs.Config.{state_at}
 use Rattle.lattice_core.specs.Lattice.{site_count}
 use Rattle.lattice_core.specs.declared.state.State.{State}
-use Rattle.pattern_list.proofs.Conditions.{both, different-places, sites-from}
+use Rattle.pattern_list.proofs.Conditions.{different-places, sites-from}
 use Rattle.pattern_list.specs.Code.{IsCode}
 use Rattle.pattern_list.specs.Match.{is_match}
 use Rattle.pattern_list.specs.Placement.{all_different, are_sites, edges_fall, is_placement, types_agree}
@@ -33,13 +34,13 @@ placed : (deck : PlainDeck) (states : List State) (code : ℕ) → length states
     → (o : IsOffered deck states code) → IsPlaced deck states code o.process o.sites
 unfolding is_placement
 placed deck states code len o =
-    let split = both (is_placement deck.graph o.process.before o.sites) (is_match (state_at states) o.process.before o.sites) o.listed in
-    let edged = (both (are_sites deck.graph o.process.before o.sites && all_different o.sites
+    let split = and_parts (is_placement deck.graph o.process.before o.sites) (is_match (state_at states) o.process.before o.sites) o.listed in
+    let edged = (and_parts (are_sites deck.graph o.process.before o.sites && all_different o.sites
     && edges_fall deck.graph o.process.before o.sites) (types_agree deck.graph o.process.before o.sites)
     split.0).0 in
-    let apart = (both (are_sites deck.graph o.process.before o.sites && all_different o.sites)
+    let apart = (and_parts (are_sites deck.graph o.process.before o.sites && all_different o.sites)
     (edges_fall deck.graph o.process.before o.sites) edged).0 in
-    let parts = both (are_sites deck.graph o.process.before o.sites) (all_different o.sites) apart in
+    let parts = and_parts (are_sites deck.graph o.process.before o.sites) (all_different o.sites) apart in
     let are = sites-from deck.graph o.process.before o.sites parts.0 in
     record {
       sound = o.sound;

@@ -3,7 +3,7 @@ use Rattle.std.proofs.Common.{◌≡◌, zero, suc, ◌≤◌, List, [], ◌∷�
 use Rattle.std.specs.List.{All, AllByRecursion}
 use Rattle.kmc_core.specs.Deck.{IsSoundProcess, IsSoundSide, IsWholeWant, dentates_in}
 use Rattle.kmc_base.specs.declared.ids.SpeciesId.{SpeciesId}
-use Rattle.pattern_types.specs.Edges.{edge_set, joined}
+use Rattle.pattern_types.specs.Edges.{edge_set, are_adjacent}
 use Rattle.pattern_types.specs.Parts.{PatternParts, parts}
 use Rattle.pattern_types.specs.Soundness.{IsSound as IsPattern}
 use Rattle.pattern_types.specs.declared.wanted.Wanted.{Wanted}
@@ -16,7 +16,7 @@ use Rattle.kmc_run.specs.PlainDecks.{plain_process, side_of, wanted_of}
 abbrev one_vertex : Wanted → PatternParts
 one_vertex wanted = parts [] (None ∷ []) (wanted ∷ [])
 
-no_edges : edge_set (joined []) ≡ []
+no_edges : edge_set (are_adjacent []) ≡ []
 unfolding edge_set
 no_edges = refl
 

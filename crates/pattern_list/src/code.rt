@@ -5,8 +5,11 @@ ghost use Rattle.pattern_list.specs.Code.{code_of, slot_at, slots_code, HasCode,
 
 use crate::sites::{parent_of, site_of, vertex_at, with_site};
 use kmc_base::{ProcId, SiteId};
-use lattice_core::Graph;
-use pattern_types::{Pattern, Placement};
+use lattice_core::{Graph, MAX_NEIGHBOURS};
+use pattern_types::{MAX_VERTICES, Pattern, Placement};
+
+/// The greatest number of processes: the number of a process has ten bits of a code.
+pub const MAX_PROCESSES: u16 = 1_024;
 
 /// The slot of the vertex at a place of the order.
 fn slot_at(graph: &Graph, pattern: &Pattern, sites: &[SiteId], place: u8) -> u8
@@ -14,7 +17,7 @@ fn slot_at(graph: &Graph, pattern: &Pattern, sites: &[SiteId], place: u8) -> u8
     requires few { place < vertex_count pattern.now }
     requires placed { HasCode graph.now pattern.now (site_numbers sites.now) }
     ensures value { result ≡ slot_at graph.now pattern.now (site_numbers sites.now) place }
-    ensures few { result < 32 }
+    ensures few { result < MAX_NEIGHBOURS }
 {
     prove!(0 < graph.len());
     prove!(place < pattern.len());
@@ -41,7 +44,7 @@ fn slots_code(graph: &Graph, pattern: &Pattern, sites: &[SiteId]) -> u64
 /// order of the pattern's vertices, from 1 on, `slot * 2^(35 - 5 * place)`. The anchor is the site of vertex 1, and a
 /// slot is that of a vertex's site among the neighbours of its parent's site. It takes no memory.
 pub fn encode(graph: &Graph, process: ProcId, pattern: &Pattern, placement: &Placement) -> u128
-    requires process { process.0 < 1024 }
+    requires process { process.0 < MAX_PROCESSES }
     requires placed { HasCode graph.now pattern.now (site_numbers placement.now) }
     ensures code { result ≡ code_of graph.now process.0 pattern.now (site_numbers placement.now) }
     ensures below { result < 2 ^ 65 }
@@ -64,7 +67,7 @@ fn anchor_in_code(code: u128) -> SiteId
 /// The slot that a code has for a place of the order.
 fn slot_in_code(code: u128, place: u8) -> u8
     requires some { 1 ≤ place }
-    requires few { place < 8 }
+    requires few { place < MAX_VERTICES }
     ensures { result ≡ code / 2 ^ (35 - 5 * place) % 32 }
 {
     ((code >> (35 - 5 * place)) % 32) as u8
@@ -77,7 +80,7 @@ pub fn decode(graph: &Graph, pattern: &Pattern, code: u128) -> Placement
         → site_numbers result ≡ sites }
 {
     prove!(0 < graph.len());
-    let mut sites = [SiteId(0); 8];
+    let mut sites = [SiteId(0); MAX_VERTICES];
     sites[0] = anchor_in_code(code);
     for place in 1..pattern.len() {
         let parent = site_of(&sites, parent_of(pattern, place));

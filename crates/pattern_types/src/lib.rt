@@ -4,22 +4,21 @@
 //!
 //! A pattern is sound by its type: it has one to eight vertices, is connected, and no entity of it
 //! names a dentate twice or two species. Its vertices have one order, in which each but the first has
-//! a parent, an earlier vertex that it is joined to.
+//! a parent, an earlier vertex that it is adjacent to: an edge joins the two.
 //!
-//! It stands on `kmc_base`, for the names of sites and species.
+//! `kmc_base` has the numbers of sites and species.
 #![tactic(auto)]
 
 mod edges;
 mod fault;
+mod limits;
 mod order;
 mod pattern;
 mod placement;
 mod wanted;
 
 pub use fault::PatternFault;
+pub use limits::MAX_VERTICES;
 pub use pattern::Pattern;
 pub use placement::Placement;
 pub use wanted::Wanted;
-
-#[cfg(test)]
-mod tests;

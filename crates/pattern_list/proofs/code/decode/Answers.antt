@@ -5,7 +5,7 @@ use Rattle.lattice_core.specs.SiteList.{site_numbers}
 use Rattle.pattern_types.specs.Parts.{vertex_count}
 use Rattle.pattern_list.proofs.Coding.{AgreeTo, anchor-agrees, next-site, agree-next, agree-take, sites-agree, some-site, site-is}
 use Rattle.pattern_list.proofs.Conditions.{sites-from}
-use Rattle.pattern_list.proofs.Changed.{length-with}
+use Rattle.pattern_list.proofs.ChangedSites.{length-with}
 use Rattle.pattern_list.proofs.Numbers.{length-numbers}
 use Rattle.pattern_list.proofs.code.decode.Goals as goal
 
