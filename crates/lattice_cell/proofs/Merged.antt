@@ -22,7 +22,7 @@ module _ (nx ny sites : ℕ) (joins : List Join) where
       (nx * ny * sites)
 
   -- the list of a site
-  list_of-neighbour_lists : (s : ℕ) → s < nx * ny * sites
+  pub list_of-neighbour_lists : (s : ℕ) → s < nx * ny * sites
       → list_of (neighbour_lists nx ny sites joins) s ≡ filter (are_joined nx ny sites joins s)
       (range_with_len 0 (nx * ny * sites))
   unfolding neighbour_lists
@@ -31,7 +31,7 @@ module _ (nx ny sites : ℕ) (joins : List Join) where
       (nx * ny * sites) s s [] within (omega arith)
 
   -- and none past the last site
-  list_of-past : (s : ℕ) → nx * ny * sites ≤ s → list_of (neighbour_lists nx ny sites joins) s ≡ []
+  pub list_of-past : (s : ℕ) → nx * ny * sites ≤ s → list_of (neighbour_lists nx ny sites joins) s ≡ []
   list_of-past s past = get_or_past (neighbour_lists nx ny sites joins) s [] (omega (arith, length-neighbour_lists))
 
   module _ (lists : List (List ℕ)) (count : length lists ≡ nx * ny * sites)

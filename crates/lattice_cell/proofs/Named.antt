@@ -1,7 +1,7 @@
 -- What lists of neighbours name once one more is added.
-use Rattle.std.proofs.Common.{◌≡◌, ℕ, ◌<◌, Bool, ◌&&◌, ◌||◌, eqb, List, [], ◌∷◌, ◌++◌, length, get_or, set, inl, inr, refl, sym, ◌∙◌, ap, subst}
+use Rattle.std.proofs.Common.{◌≡◌, ℕ, ◌<◌, Bool, true, ◌&&◌, ◌||◌, eqb, List, [], ◌∷◌, ◌++◌, length, get_or, set, inl, inr, refl, sym, ◌∙◌, ap, subst}
 use Rattle.std.proofs.Math.Bool.{or_assoc, or-false}
-use Rattle.std.proofs.lemmas.Bool.{cases_eq, eq-eqb, ne_eqb}
+use Rattle.std.proofs.lemmas.Bool.{cases_eq, cases_Bool, eq-eqb, eqb-true, ne_eqb, and_parts}
 use Rattle.std.proofs.lemmas.List.{map-append}
 use Rattle.std.proofs.lemmas.List.Folds.{list_any-append}
 use Rattle.std.specs.declared.vec.Vec.{Vec}
@@ -36,3 +36,14 @@ pub NamesMore-then : (a b c : List (Vec SiteId Global)) (p q r : ℕ → ℕ →
     → ((s t : ℕ) → (p s t || q s t) ≡ r s t) → NamesMore a c r
 NamesMore-then a b c p q r first next both = λ s t.
     next s t ∙ ap (λ x. x || q s t) (first s t) ∙ or_assoc (names a s t) (p s t) (q s t) ∙ ap (λ x. names a s t || x) (both s t)
+
+-- nothing is added where the site is named already
+pub NamesMore-had : (lists : List (Vec SiteId Global)) (s t : ℕ) → names lists s t ≡ true → NamesMore lists lists (λ a b. eqb s a && eqb t b)
+NamesMore-had lists s t had = λ a b.
+    elim (cases_Bool (eqb s a && eqb t b)) [
+      | inl here ↦ let parts = and_parts _ _ here in
+          let named : names lists a b ≡ true =
+          subst (λ k. names lists k b ≡ true) (eqb-true s a parts.0) (subst (λ k. names lists s k ≡ true) (eqb-true t b parts.1) had) in
+          rw named refl
+      | inr there ↦ rw there (sym (or-false (names lists a b)))
+    ]

@@ -3,7 +3,7 @@ ghost use Rattle.lattice_cell.specs.Cells.{steps_east, steps_north};
 
 /// Which cell the second site of a join is in, seen from the cell of its first: the words of `neighboring_structure`
 /// (Zacros manual), where `Own` is `self`. The cells are periodic: past the last comes the first.
-#[derive(Clone, Copy, Debug, PartialEq, Eq, Hash)]
+#[derive(Clone, Copy, Debug, PartialEq, Eq, PartialOrd, Ord, Hash)]
 pub enum Toward {
     /// The same cell.
     Own,
@@ -43,7 +43,7 @@ impl Toward {
 }
 
 /// In each cell, makes a site of it and a site of a displaced cell neighbours. Sites of a cell are counted from 0.
-#[derive(Clone, Copy, Debug, PartialEq, Eq, Hash)]
+#[derive(Clone, Copy, Debug, PartialEq, Eq, PartialOrd, Ord, Hash)]
 pub struct Join {
     /// The site of the cell.
     pub from: u32,

@@ -1,37 +1,27 @@
-ghost use Rattle.std.specs.Prelude.{◌≡◌, ◌*◌, ◌≤◌, ℕ, List, All, IfOk, length, nat_lt};
+ghost use Rattle.std.specs.Prelude.{◌≡◌, ◌*◌, ◌≤◌, All, IfOk, length, nat_lt};
 ghost use Rattle.std.specs.List.{list_any};
-ghost use Rattle.std.specs.List.Sorted.{IsStrictlyIncreasing};
 ghost use Rattle.kmc_base.specs.declared.limits.TheConstants.{MAX_SITES};
-ghost use Rattle.lattice_core.specs.SiteList.{site_numbers, number_lists, is_listed, AreMerged};
 ghost use Rattle.lattice_cell.specs.Cells.{IsInCell};
 ghost use Rattle.lattice_cell.specs.Periodic.{neighbour_lists};
 
 use crate::cell::Join;
-use crate::neighbours::neighbour_lists;
+use crate::distinct::distinct_joins;
+use crate::neighbours::Neighbours;
 use crate::repeats::Repeats;
-use kmc_base::{OutOfMemory, SiteId};
+use kmc_base::OutOfMemory;
 use lattice_core::MAX_NEIGHBOURS;
 use std::alloc::Global;
 
-/// Whether a list names more different sites than a site may have as neighbours.
-fn names_too_many(alloc: Global, list: &[SiteId]) -> Result<bool, OutOfMemory>
-    ensures { IfOk result (λ b. (rising : List ℕ) → IsStrictlyIncreasing rising
-        → ((s : ℕ) → is_listed rising s ≡ is_listed (site_numbers list.now) s)
-        → b ≡ nat_lt MAX_NEIGHBOURS (length rising)) }
+/// Whether these joins give some site more than `MAX_NEIGHBOURS` neighbours. It stops at the first join that does.
+fn crowds(alloc: Global, repeats: Repeats, joins: &[Join]) -> Result<bool, OutOfMemory>
+    requires { All (IsInCell repeats.sites) joins.now }
+    ensures { IfOk result (λ b. b ≡ list_any (λ list. nat_lt MAX_NEIGHBOURS (length list))
+        (neighbour_lists repeats.nx repeats.ny repeats.sites joins.now)) }
 {
-    let mut sites = list.to_vec(alloc)?;
-    sites.sort_unstable();
-    sites.dedup();
-    Ok(sites.len() > MAX_NEIGHBOURS)
-}
-
-/// Whether some list does.
-fn some_names_too_many(alloc: Global, lists: &[Vec<SiteId>]) -> Result<bool, OutOfMemory>
-    ensures { IfOk result (λ b. (merged : List (List ℕ)) → AreMerged (number_lists lists.now) merged
-        → b ≡ list_any (λ list. nat_lt MAX_NEIGHBOURS (length list)) merged) }
-{
-    for list in lists {
-        if names_too_many(alloc, list)? {
+    let mut neighbours = Neighbours::none(alloc, repeats.count())?;
+    for join in joins {
+        neighbours.join_cells(repeats, *join)?;
+        if neighbours.is_crowded() {
             return Ok(true);
         }
     }
@@ -40,8 +30,8 @@ fn some_names_too_many(alloc: Global, lists: &[Vec<SiteId>]) -> Result<bool, Out
 
 /// Whether some site of the lattice of a cell of so many sites has more than `MAX_NEIGHBOURS` neighbours.
 ///
-/// A site that is joined to itself counts among its neighbours here. Its work grows with the number of cells times the
-/// number of joins, and with the sorting of each site's neighbours.
+/// A site that is joined to itself counts among its neighbours here. Equal joins cost no more than their sorting, and the
+/// work ends at the first join that gives a site too many neighbours, so that no list grows much longer.
 pub fn is_crowded(
     alloc: Global,
     nx: u32,
@@ -55,6 +45,6 @@ pub fn is_crowded(
     ensures { IfOk result (λ b. b ≡ list_any (λ list. nat_lt MAX_NEIGHBOURS (length list)) (neighbour_lists nx ny sites joins.now)) }
 {
     let repeats = Repeats { nx, ny, sites };
-    let lists = neighbour_lists(alloc, repeats, joins)?;
-    some_names_too_many(alloc, &lists)
+    let joins = distinct_joins(alloc, joins)?;
+    crowds(alloc, repeats, &joins)
 }

@@ -48,9 +48,9 @@ const NORTHEAST: Join = Join {
 ///
 /// `types` has the type of each site of the cell. All is counted from 0: the cell at `a` in the first direction and `b`
 /// in the second has number `a * ny + b`, and its site `k` has number `cell * types.len() + k`. `OutOfMemory` says
-/// nothing of the neighbours.
+/// nothing about the neighbours.
 ///
-/// Its work grows with the number of cells times the number of joins.
+/// Its work grows with the number of cells times the number of different joins.
 pub fn expand_periodic(
     alloc: Global,
     nx: u32,

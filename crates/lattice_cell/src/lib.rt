@@ -4,12 +4,13 @@
 //! `expand_periodic` repeats a cell of sites in two directions, with periodic boundaries, and joins sites of each cell to
 //! sites of a displaced one. `expand_default` does so for the rectangular and the hexagonal lattice. `expand_explicit`
 //! takes the neighbours of each site. Each answers the lattice, or the first fault of its neighbours as `lattice_core`
-//! names it. `is_crowded` tells whether a repeated cell gives a site too many neighbours. The crate stands on
+//! names it. `is_crowded` says whether a repeated cell gives a site too many neighbours. The crate uses
 //! `lattice_core` and `kmc_base`.
 #![tactic(auto)]
 
 mod cell;
 mod crowding;
+mod distinct;
 mod expand;
 mod neighbours;
 mod repeats;

@@ -29,7 +29,7 @@ list_of-numbers lists i list within is =
     ∙ ap (λ (v : Vec SiteId Global). site_numbers v.items) (sym is)
 
 -- one list replaced
-number_lists-set : (lists : List (Vec SiteId Global)) (i : ℕ) (list : Vec SiteId Global)
+pub number_lists-set : (lists : List (Vec SiteId Global)) (i : ℕ) (list : Vec SiteId Global)
     → number_lists (set lists i list) ≡ set (number_lists lists) i (site_numbers list.items)
 number_lists-set lists i list = map-set (λ (v : Vec SiteId Global). site_numbers v.items) lists i list
 

@@ -1,38 +1,21 @@
-use Rattle.std.proofs.Common.{◌≡◌, ◌*◌, ◌∙◌, ◌||◌, get_or, length, ap, arith}
-use Rattle.std.proofs.lemmas.List.{length-map}
-use Rattle.std.specs.declared.vec.Vec.{Vec}
-use Rattle.std.specs.declared.alloc.Global.{Global}
-use Rattle.kmc_base.specs.declared.ids.SiteId.{SiteId}
-use Rattle.lattice_core.specs.SiteList.{site_numbers, number_lists}
-use Rattle.lattice_cell.specs.declared.cell.Toward.TheVariants.{Own}
-use Rattle.lattice_cell.specs.Periodic.{joins_sites}
-use Rattle.lattice_cell.proofs.Joining.{joined_by-more, joined_by-all}
-use Rattle.lattice_cell.proofs.Merged.{merged-neighbour_lists}
+use Rattle.std.proofs.Common.{◌∙◌, ap, subst, sym, All}
+use Rattle.std.specs.List.{list_any}
+use Rattle.std.proofs.lemmas.List.Elements.{All-contains, All-weaker}
+use Rattle.std.proofs.lemmas.Result.{IfOk-weaker}
+use Rattle.lattice_core.specs.SiteList.{number_lists, AreMerged}
+use Rattle.lattice_cell.specs.Cells.{IsInCell}
+use Rattle.lattice_cell.proofs.Joining.{neighbour_lists-same}
 use Rattle.lattice_cell.proofs.neighbours.neighbour_lists.Goals as goal
 
-pub loop-join-preserved : goal.loop-join-preserved
-loop-join-preserved c =
-    let r = c.args.repeats in
-    let joins = c.args.joins.now in
-    let i = c.loop-join.join-index in
-    let join = get_or joins i (record { from = 0; to = 0; toward = Own }) in
-    record {
-      count = c.in_ok-join_cells.ensures.count ∙ c.loop-join.invariant.count;
-      named = λ s t. c.in_ok-join_cells.ensures.more s t
-          ∙ ap (λ x. x || (joins_sites r.nx r.ny r.sites join s t || joins_sites r.nx r.ny r.sites join t s)) (c.loop-join.invariant.named s t)
-          ∙ joined_by-more r.nx r.ny r.sites joins i (record { from = 0; to = 0; toward = Own }) s t (omega arith);
-    }
+pub joined_lists-requires : goal.joined_lists-requires
+joined_lists-requires c =
+    subst (All (IsInCell c.args.repeats.sites)) (sym c.deref.ensures.value)
+    (All-weaker _ _ (λ join among. All-contains (IsInCell c.args.repeats.sites) c.args.joins.now join c.requires among) _ c.in_ok-joins.ensures.among)
 
 pub returns-clause-lists : goal.returns-clause-lists
 returns-clause-lists c =
     let r = c.args.repeats in
-    let lists = c.loop-join.neighbours.lists in
-    let count : length (number_lists lists.items) ≡ r.nx * r.ny * r.sites =
-    omega (
-      arith,
-      length-map lists.items (λ (v : Vec SiteId Global). site_numbers v.items),
-      lists.ok.0,
-      c.loop-join.invariant.count,
-    ) in
-    merged-neighbour_lists r.nx r.ny r.sites c.args.joins.now (number_lists lists.items) count
-    (λ s t. c.loop-join.invariant.named s t ∙ joined_by-all r.nx r.ny r.sites c.args.joins.now c.loop-join.join-index s t (omega arith))
+    let kept = c.in_ok-joins.joins.items in
+    let same = neighbour_lists-same r.nx r.ny r.sites c.deref.result.now c.args.joins.now
+    (λ p. ap (λ l. list_any p l) c.deref.ensures.value ∙ c.in_ok-joins.ensures.same p) in
+    IfOk-weaker c.joined_lists.result _ _ (λ lists are. subst (AreMerged (number_lists lists.items)) same are) c.joined_lists.ensures.lists

@@ -1,7 +1,7 @@
 use Rattle.std.proofs.Common.{◌≡◌, ◌*◌, ℕ, take, vec_len}
 use Rattle.lattice_cell.specs.Naming.{names}
 use Rattle.lattice_cell.proofs.Joining.{joined_by}
-use Rattle.lattice_cell.proofs.neighbours.neighbour_lists.Given as goal
+use Rattle.lattice_cell.proofs.neighbours.joined_lists.Given as goal
 
 -- the lists name what the joins so far join
 abbrev pub invariant-loop-join : goal.invariant-loop-join
