@@ -18,6 +18,3 @@ mod repeats;
 pub use cell::{Join, Toward};
 pub use crowding::is_crowded;
 pub use expand::{DefaultLattice, expand_default, expand_explicit, expand_periodic};
-
-#[cfg(test)]
-mod tests;

@@ -4,13 +4,10 @@ ghost use Rattle.lattice_core.specs.SiteList.{site_numbers};
 
 use crate::state::{State, class_of};
 use crate::steps::Steps;
-use kmc_base::{OutOfMemory, SiteId, SpeciesId};
+use kmc_base::{MAX_DENTATES, OutOfMemory, SiteId, SpeciesId};
 use std::alloc::Global;
 use std::marker::Model;
 use std::sync::ledger::Ledger;
-
-/// The greatest number of dentates of an adsorbate. Each dentate is bound to a site of its own.
-pub const MAX_DENTATES: usize = 8;
 
 /// A configuration: the state of each site. A contract sees it as the list of the states.
 ///

@@ -1,9 +1,8 @@
 ghost use Rattle.std.specs.Prelude.{◌≡◌, ◌≤◌, length};
 ghost use Rattle.lattice_core.specs.Shown.{given_at};
 
-use crate::config::MAX_DENTATES;
 use crate::state::State;
-use kmc_base::SiteId;
+use kmc_base::{MAX_DENTATES, SiteId};
 use std::marker::Model;
 
 /// States that are given for a few sites.
@@ -17,7 +16,7 @@ impl Model for Given {
     ghost use Rattle.std.specs.Prelude.{List, take, ◌≤◌};
     ghost use Rattle.kmc_base.specs.declared.ids.SiteId.{SiteId};
     ghost use Rattle.lattice_core.specs.declared.state.State.{State};
-    ghost use Rattle.lattice_core.specs.declared.config.TheConstants.{MAX_DENTATES};
+    ghost use Rattle.kmc_base.specs.declared.limits.TheConstants.{MAX_DENTATES};
 
     ghost Value = { List (SiteId × State) };
 

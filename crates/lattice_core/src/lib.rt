@@ -18,13 +18,11 @@ mod states;
 mod steps;
 mod window;
 
-pub use config::{Config, MAX_DENTATES};
+pub use config::Config;
 pub use fault::GraphFault;
 pub use graph::{Graph, MAX_NEIGHBOURS};
+pub use kmc_base::MAX_DENTATES;
 pub use state::State;
 pub use states::{Bare, Overlay, States};
 pub use steps::Steps;
 pub use window::Window;
-
-#[cfg(test)]
-mod tests;

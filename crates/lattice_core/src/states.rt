@@ -1,10 +1,9 @@
 ghost use Rattle.std.specs.Prelude.{◌≡◌, ◌≢◌, ◌≤◌, ℕ, AllPairs, IsSome, length, unwrap_or, ⊤, ◌⊎◌};
 ghost use Rattle.lattice_core.specs.Shown.{given_at, state_or_vacant};
 
-use crate::config::MAX_DENTATES;
 use crate::given::Given;
 use crate::state::State;
-use kmc_base::SiteId;
+use kmc_base::{MAX_DENTATES, SiteId};
 use std::marker::Model;
 
 /// What shows the states of some sites.

@@ -17,10 +17,8 @@ mod sizes;
 mod types;
 mod values;
 
+pub use forms::{FORMS, Form, RowCount};
 pub use part::LatticePart;
 pub use reader::read;
 pub use row_kinds::row_kinds_rise;
 pub use types::unknown_type;
-
-#[cfg(test)]
-mod tests;

@@ -19,6 +19,3 @@ pub use faults::{RowFault, first_fault};
 pub use listed::graph_of;
 pub use type_word::{MAX_SITE_TYPES, type_of};
 pub use words::{is_no_site, row_words};
-
-#[cfg(test)]
-mod tests;

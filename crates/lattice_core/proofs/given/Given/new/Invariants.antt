@@ -1,5 +1,5 @@
 use Rattle.std.proofs.Common.{◌≡◌, length, take}
-use Rattle.lattice_core.specs.declared.config.TheConstants.{MAX_DENTATES}
+use Rattle.kmc_base.specs.declared.limits.TheConstants.{MAX_DENTATES}
 use Rattle.lattice_core.proofs.given.Given.new.Given as goal
 
 -- the states so far

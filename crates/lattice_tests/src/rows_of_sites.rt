@@ -1,6 +1,6 @@
-use crate::{RowFault, first_fault, graph_of, is_no_site, row_words, type_of};
 use dec_text::split;
 use kmc_base::SiteId;
+use site_rows::{RowFault, first_fault, graph_of, is_no_site, row_words, type_of};
 use std::alloc::Global;
 use std::test::Fail;
 

@@ -1,7 +1,7 @@
-use crate::{
+use kmc_base::SiteId;
+use lattice_cell::{
     DefaultLattice, Join, Toward, expand_default, expand_explicit, expand_periodic, is_crowded,
 };
-use kmc_base::SiteId;
 use lattice_core::{Graph, GraphFault};
 use std::alloc::Global;
 use std::process::Abort;

@@ -1,12 +1,12 @@
-use crate::{LatticePart, read, row_kinds_rise, unknown_type};
 use deck_shape::{DeckFault, Fault, read_shape};
-use kmc_base::{FileId, OutOfMemory, SiteId};
+use kmc_base::{FileId, MAX_FILE_BYTES, OutOfMemory, SiteId};
+use lattice_deck::{LatticePart, read, row_kinds_rise, unknown_type};
 use std::alloc::Global;
 use std::test::Fail;
 
-/// The values of a short text, or its first fault of form or of a value.
-fn read_text(alloc: Global, text: &[u8]) -> Result<LatticePart, DeckFault> {
-    if text.len() > 4096 {
+/// The values of a text, or its first fault of form or of a value.
+pub(crate) fn read_text(alloc: Global, text: &[u8]) -> Result<LatticePart, DeckFault> {
+    if text.len() > MAX_FILE_BYTES {
         return Err(DeckFault::OutOfMemory);
     }
     let shape = read_shape(alloc, FileId::Lattice, text)?;
@@ -14,7 +14,7 @@ fn read_text(alloc: Global, text: &[u8]) -> Result<LatticePart, DeckFault> {
 }
 
 /// The line and the kind of the fault of a text; None where it has none.
-fn fault_of(alloc: Global, text: &[u8]) -> Result<Option<(u32, u8)>, OutOfMemory> {
+pub(crate) fn fault_of(alloc: Global, text: &[u8]) -> Result<Option<(u32, u8)>, OutOfMemory> {
     match read_text(alloc, text) {
         Ok(_) => Ok(None),
         Err(DeckFault::Fault(Fault { line, kind, .. })) => Ok(Some((line, kind))),

@@ -1,8 +1,8 @@
 ghost use Rattle.std.specs.Prelude.{◌≡◌, ◌<◌};
 
-use super::graphs::{RECTANGULAR, graph, grid};
-use crate::{Bare, Config, Overlay, State, States, Steps, Window};
+use crate::graphs::{RECTANGULAR, graph, grid};
 use kmc_base::{SiteId, SpeciesId};
+use lattice_core::{Bare, Config, Overlay, State, States, Steps, Window};
 use std::alloc::Global;
 use std::marker::Brand;
 use std::process::Abort;

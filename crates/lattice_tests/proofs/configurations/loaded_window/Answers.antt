@@ -2,7 +2,7 @@
 use Rattle.std.proofs.Common.{◌∙◌, ap, arith}
 use Rattle.lattice_core.specs.SiteList.{is_listed}
 use Rattle.lattice_core.proofs.Balls.{ball-anchor}
-use Rattle.lattice_core.proofs.tests.configurations.loaded_window.Goals as goal
+use Rattle.lattice_tests.proofs.configurations.loaded_window.Goals as goal
 
 pub clear-requires : goal.clear-requires
 clear-requires g c = c.set.ensures.whole (λ _. 1) (c.in_ok-config.ensures.well_formed (λ _. 1))

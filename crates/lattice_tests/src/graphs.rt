@@ -1,7 +1,7 @@
 ghost use Rattle.std.specs.Prelude.{◌<◌};
 
-use crate::{Graph, GraphFault};
 use kmc_base::SiteId;
+use lattice_core::{Graph, GraphFault};
 use std::alloc::Global;
 use std::process::Abort;
 use std::test::Fail;

@@ -1,2 +1,0 @@
-mod configurations;
-mod graphs;
