@@ -5,3 +5,4 @@ mod Placed
 mod RowLookups
 mod RowWords
 mod Searches
+mod TypeIndexes

@@ -4,5 +4,6 @@ pub mod ReadRows
 pub mod RowFaults
 pub mod RowLookup
 pub mod SiteRows
+pub mod TypeIndexes
 pub mod TypeWords
 pub mod Words

@@ -2,7 +2,7 @@
 //! neighbours.
 //!
 //! `first_fault` gives exactly the first fault of the rows, and `graph_of` exactly the lattice of rows without one.
-//! `type_of` gives the type of a type word, `row_words` the words of a row, and `is_no_site` says whether a number is
+//! `type_of` and `TypeIndex` give the type of a type word, `row_words` the words of a row, and `is_no_site` says whether a number is
 //! that of no site; periodic cells are read with these three too. The form of a row is that of the Zacros manual; the
 //! faults, their order and the limits are kmc's own. It stands on dec_text, kmc_base and lattice_core, and knows nothing
 //! of blocks or of the numbers of kinds of faults.
@@ -12,10 +12,12 @@ mod faults;
 mod index;
 mod listed;
 mod row;
+mod type_index;
 mod type_word;
 mod words;
 
 pub use faults::{RowFault, first_fault};
 pub use listed::graph_of;
+pub use type_index::TypeIndex;
 pub use type_word::{MAX_SITE_TYPES, type_of};
 pub use words::{is_no_site, row_words};

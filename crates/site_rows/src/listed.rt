@@ -11,7 +11,7 @@ ghost use Rattle.site_rows.specs.TypeWords.{type_of};
 ghost use Rattle.site_rows.specs.declared.type_word.TheConstants.{MAX_SITE_TYPES};
 
 use crate::row::{ReadRow, site_row};
-use crate::type_word::type_of;
+use crate::type_index::TypeIndex;
 use dec_text::Line;
 use kmc_base::{MAX_SITES, OutOfMemory, SiteId};
 use lattice_core::Graph;
@@ -44,20 +44,19 @@ fn empty_lists(alloc: Global, sites: u32) -> Result<Vec<Vec<SiteId>>, OutOfMemor
 fn place_row(
     alloc: Global,
     bytes: &[u8],
-    names: &[Vec<u8>],
+    index: &TypeIndex,
     types: &mut [u16],
     lists: &mut [Vec<SiteId>],
     row: &ReadRow,
 ) -> Result<(), OutOfMemory>
-    requires names { length names.now ≤ MAX_SITE_TYPES }
     requires same_length { length lists.old ≡ length types.old }
     requires within_limit { length types.old ≤ MAX_SITES }
     requires sites { NamesSites (length types.old) (row_at bytes.now row.now) }
-    ensures types { OnOk result (types.new ≡ slice_set types.old (row.now.site - 1) (type_of (map (λ name. name.items) names.now) (bytes_at bytes.now row.now.type_word))) }
+    ensures types { OnOk result (types.new ≡ slice_set types.old (row.now.site - 1) (type_of index.now (bytes_at bytes.now row.now.type_word))) }
     ensures lists { OnOk result (number_lists lists.new ≡ slice_set (number_lists lists.old) (row.now.site - 1) (map (λ n. n - 1) row.now.neighbours.items)) }
 {
     let place = (row.site - 1) as usize;
-    types[place] = type_of(names, row.type_word.bytes(bytes)) as u16;
+    types[place] = index.type_of(row.type_word.bytes(bytes));
     lists[place] = site_ids(alloc, row.neighbours.as_slice())?;
     Ok(())
 }
@@ -66,24 +65,23 @@ fn place_row(
 fn place_line(
     alloc: Global,
     bytes: &[u8],
-    names: &[Vec<u8>],
+    index: &TypeIndex,
     types: &mut [u16],
     lists: &mut [Vec<SiteId>],
     line: &Line,
 ) -> Result<(), OutOfMemory>
-    requires names { length names.now ≤ MAX_SITE_TYPES }
     requires same_length { length lists.old ≡ length types.old }
     requires within_limit { length types.old ≤ MAX_SITES }
     requires sites { LineNamesSites (length types.old) (line_at bytes.now line.now) }
     ensures types { OnOk result ((above : List WordLine) → IsNewSite (rows_of above) (line_at bytes.now line.now)
-        → AreTypes (map (λ name. name.items) names.now) (rows_of above) types.old
-        → AreTypes (map (λ name. name.items) names.now) (rows_of (above ++ line_at bytes.now line.now ∷ [])) types.new) }
+        → AreTypes index.now (rows_of above) types.old
+        → AreTypes index.now (rows_of (above ++ line_at bytes.now line.now ∷ [])) types.new) }
     ensures lists { OnOk result ((above : List WordLine) → IsNewSite (rows_of above) (line_at bytes.now line.now)
         → AreNeighbours (rows_of above) lists.old
         → AreNeighbours (rows_of (above ++ line_at bytes.now line.now ∷ [])) lists.new) }
 {
     match site_row(alloc, bytes, line)? {
-        Some(row) => place_row(alloc, bytes, names, types, lists, &row),
+        Some(row) => place_row(alloc, bytes, index, types, lists, &row),
         None => Ok(()),
     }
 }
@@ -92,22 +90,21 @@ fn place_line(
 fn place_rows(
     alloc: Global,
     bytes: &[u8],
-    names: &[Vec<u8>],
+    index: &TypeIndex,
     types: &mut [u16],
     lists: &mut [Vec<SiteId>],
     rows: &[Line],
 ) -> Result<(), OutOfMemory>
-    requires names { length names.now ≤ MAX_SITE_TYPES }
     requires same_length { length lists.old ≡ length types.old }
     requires within_limit { length types.old ≤ MAX_SITES }
     requires faultless { IsFaultless (length types.old) (map (line_at bytes.now) rows.now) }
-    ensures types { OnOk result (AreTypes (map (λ name. name.items) names.now) [] types.old
-        → AreTypes (map (λ name. name.items) names.now) (rows_of (map (line_at bytes.now) rows.now)) types.new) }
+    ensures types { OnOk result (AreTypes index.now [] types.old
+        → AreTypes index.now (rows_of (map (line_at bytes.now) rows.now)) types.new) }
     ensures lists { OnOk result (AreNeighbours [] lists.old
         → AreNeighbours (rows_of (map (line_at bytes.now) rows.now)) lists.new) }
 {
     for line in rows {
-        place_line(alloc, bytes, names, types, lists, line)?;
+        place_line(alloc, bytes, index, types, lists, line)?;
     }
     Ok(())
 }
@@ -129,12 +126,13 @@ pub fn graph_of(
     requires faultless { first_fault (Some sites) (map (line_at bytes.now) rows.now) ≡ None }
     ensures { IfOk result (λ g. g ≡ listed_lattice sites (map (λ name. name.items) names.now) (rows_of (map (line_at bytes.now) rows.now))) }
 {
+    let index = TypeIndex::new(alloc, names)?;
     let mut types = vec![in alloc; 0u16; sites as usize]?;
     let mut lists = empty_lists(alloc, sites)?;
     place_rows(
         alloc,
         bytes,
-        names,
+        &index,
         types.as_mut_slice(),
         lists.as_mut_slice(),
         rows,

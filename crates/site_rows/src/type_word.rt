@@ -28,7 +28,7 @@ fn type_named(names: &[Vec<u8>], word: &[u8]) -> usize
 }
 
 /// The number that a word writes, where it is that of a type.
-fn type_numbered(count: usize, word: &[u8]) -> Option<usize>
+pub(crate) fn type_numbered(count: usize, word: &[u8]) -> Option<usize>
     ensures value { result ≡ type_numbered count (whole_number word.now) }
     ensures within { IfSome result (λ n. n ≤ count) }
 {

@@ -5,7 +5,7 @@ use Rattle.std.proofs.lemmas.Option.{none-some}
 use Rattle.dec_text.specs.Spans.{line_at}
 use Rattle.lattice_core.specs.Fault.{first_fault, lattice_from}
 use Rattle.lattice_core.specs.SiteList.{number_lists}
-use Rattle.site_rows.specs.Listed.{neighbours_at}
+use Rattle.site_rows.specs.Listed.{listed_lattice, neighbours_at}
 use Rattle.site_rows.specs.SiteRows.{rows_of}
 use Rattle.site_rows.proofs.ListedLattice.{none_listed}
 use Rattle.site_rows.proofs.Placed.{first_lists, first_types, list_total, listed_is}
@@ -30,7 +30,7 @@ unreachable-requires c =
 pub returns : goal.returns
 returns c =
     let lines = map (line_at c.args.bytes.now) c.args.rows.now in
-    let names = map (λ name. name.items) c.args.names.now in
+    let names = c.in_ok-index.index in
     let types = c.place_rows.new.types in
     let lists = c.place_rows.new.lists in
     let first = c.as_mut_slice-2.ensures.value in
@@ -47,3 +47,4 @@ returns c =
     ∙ ap (λ ts. lattice_from ts (number_lists (take c.in_ok-lists.lists.len (lists ++ drop (length lists) c.in_ok-lists.lists.items)))) kept_types
     ∙ ap (λ ls. lattice_from types (number_lists ls)) kept_lists
     ∙ listed_is names (rows_of lines) types lists c.args.sites are_types are_lists long many
+    ∙ ap (λ ns. listed_lattice c.args.sites ns (rows_of lines)) c.in_ok-index.ensures

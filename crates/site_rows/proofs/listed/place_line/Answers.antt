@@ -1,4 +1,4 @@
-use Rattle.std.proofs.Common.{◌∙◌, ap, sym, subst, arith, map}
+use Rattle.std.proofs.Common.{◌∙◌, ap, sym, subst, arith}
 use Rattle.std.specs.Option.{option_map}
 use Rattle.std.proofs.lemmas.Result.{on_ok_weaker}
 use Rattle.dec_text.specs.Spans.{line_at}
@@ -15,7 +15,7 @@ returns-in-Some-clause-types c =
     let line = line_at text c.args.line.now in
     let row = row_at text c.in-Some.row in
     let has = sym (c.in_ok-row.ensures) ∙ ap (option_map (row_at text)) c.in-Some.is in
-    let names = map (λ name. name.items) c.args.names.now in
+    let names = c.args.index.now in
     let within = c.requires.sites row has in
     on_ok_weaker c.place_row.result
     (λ put above new are. subst (λ rows. AreTypes names rows c.place_row.new.types) (sym (rows_of-pushed above line row has))
@@ -38,7 +38,7 @@ returns-in-Some-clause-lists c =
 pub returns-in-None-clause-types : goal.returns-in-None-clause-types
 returns-in-None-clause-types c above new are =
     let text = c.args.bytes.now in
-    subst (λ rows. AreTypes (map (λ name. name.items) c.args.names.now) rows c.args.types.now)
+    subst (λ rows. AreTypes c.args.index.now rows c.args.types.now)
     (sym (rows_of-none above (line_at text c.args.line.now)
     (sym (c.in_ok-row.ensures) ∙ ap (option_map (row_at text)) c.in-None.is))) are
 

@@ -21,7 +21,7 @@ place_line-requires-clause-sites c row has =
 pub loop-line-preserved : goal.loop-line-preserved
 loop-line-preserved c =
     let f = line_at c.args.bytes.now in
-    let names = map (λ name. name.items) c.args.names.now in
+    let names = c.args.index.now in
     let rows = c.args.rows.now in
     let line = f c.line-item.result in
     let i = c.loop-line.line-index in

@@ -7,8 +7,8 @@ use Rattle.site_rows.proofs.listed.place_rows.Given as goal
 -- the rows so far are placed
 abbrev pub invariant-loop-line : goal.invariant-loop-line
 invariant-loop-line l = record {
-  types : AreTypes (map (λ name. name.items) l.names) [] l.initial.types
-      → AreTypes (map (λ name. name.items) l.names) (rows_of (map (line_at l.bytes) (take l.line-index l.rows)))
+  types : AreTypes l.index [] l.initial.types
+      → AreTypes l.index (rows_of (map (line_at l.bytes) (take l.line-index l.rows)))
       l.types;
   lists : AreNeighbours [] l.initial.lists → AreNeighbours (rows_of (map (line_at l.bytes) (take l.line-index l.rows))) l.lists;
 }
