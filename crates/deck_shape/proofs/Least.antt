@@ -1,6 +1,7 @@
--- the least of several kinds of fault
+-- the least of several kinds of fault, and none of them
 use Rattle.std.proofs.Common.{◌≡◌, ◌∙◌, sym, ℕ, Bool, true, false, Option, None, Some, refl, arith, nat_le, if◌then◌else◌}
 use Rattle.std.proofs.lemmas.Bool.{leb-false, leb-true, le-leb, lt-leb}
+use Rattle.deck_shape.specs.Lists.{fault_if}
 use Rattle.deck_shape.specs.Numbers.{lesser}
 
 pub lesser_none : (a : Option ℕ) → lesser a None ≡ a
@@ -33,3 +34,17 @@ lesser_assoc None b c = refl
 lesser_assoc (Some a) None c = refl
 lesser_assoc (Some a) (Some b) None = lesser_none (lesser (Some a) (Some b))
 lesser_assoc (Some a) (Some b) (Some c) = if_some a b c
+
+not_none : (t : Bool) (a b : ℕ) → (if t then Some a else Some b) ≡ None → ⊥
+not_none true a b e = cc
+not_none false a b e = cc
+
+-- where the lesser of two kinds is none, neither holds
+pub neither : (a b : Option ℕ) → lesser a b ≡ None → (a ≡ None) × (b ≡ None)
+neither None b e = (refl, e)
+neither (Some a) None e = absurd (cc)
+neither (Some a) (Some b) e = absurd (not_none (nat_le a b) a b e)
+
+pub holds_not : (holds : Bool) (kind : ℕ) → fault_if holds kind ≡ None → holds ≡ false
+holds_not true kind e = absurd (cc)
+holds_not false kind e = refl

@@ -1,7 +1,8 @@
 pub mod FileForms
+pub mod FirstFaults
 mod FirstKinds
 pub mod FormTables
-mod Least
+pub mod Least
 mod LineCounts
 pub mod Maps
 pub mod NameLists

@@ -1,6 +1,6 @@
 -- searches of the values of a list
-use Rattle.std.proofs.Common.{◌≡◌, ◌∙◌, true, false, cond, IfSome, ◌||◌, ap, Bor, Option, None, Some, is_some, Bool, List, [], ◌∷◌}
-use Rattle.std.proofs.Common.{get_or, map, refl, ⊎_elim}
+use Rattle.std.proofs.Common.{◌≡◌, true, false, cond, IfSome, ◌||◌, ap, Bor, Option, None, Some, is_some, Bool, List, [], ◌∷◌}
+use Rattle.std.proofs.Common.{arith, get_or, length, map, refl, sym, ⊎_elim}
 use Rattle.std.specs.List.{AllByRecursion, find, list_any}
 use Rattle.std.specs.Option.{option_copied, option_map}
 use Rattle.std.proofs.lemmas.Bool.{cases_Bool}
@@ -33,7 +33,8 @@ pub IfSome-find : {X : Type 0} (P : X → Type 0) (p : X → Bool) (xs : List X)
 IfSome-find P p [] all = tt
 IfSome-find P p (x ∷ xs) all = elim (p x) as (λ b. IfSome (cond b (Some x) (find p xs)) P) [ true ↦ all.0 | false ↦ IfSome-find P p xs all.1 ]
 
--- what the first member of a list stands for, where the list stands for one thing
-pub first_of_one : {X Y : Type 0} (h : X → Y) (xs : List X) (x : X) (y : Y) → map h xs ≡ y ∷ [] → x ≡ get_or xs 0 x → h x ≡ y
-first_of_one h [] x y one is = cc
-first_of_one h (z ∷ zs) x y one is = let same : h z ≡ y = cc in ap h is ∙ same
+-- a list of one member
+pub the_one : {X : Type 0} (xs : List X) (x : X) → length xs ≡ 1 → x ≡ get_or xs 0 x → xs ≡ x ∷ []
+the_one [] x one is = absurd (omega arith)
+the_one (y ∷ []) x one is = ap (λ z. z ∷ []) (sym is)
+the_one (y ∷ z ∷ ys) x one is = absurd (omega arith)

@@ -20,11 +20,11 @@ mod reading;
 mod shape;
 mod table;
 
-pub use fault::{DeckFault, Fault};
+pub use fault::{DeckFault, Fault, fault_or, line_fault};
 pub use form::{WordForm, form_of};
 pub use keyword::Keyword;
 pub use line_words::NO_WORD;
-pub use list::{fault_if, has_other_length, names_repeat};
+pub use list::{fault_if, has_other_length, names_fault, names_repeat};
 pub use name::Name;
 pub use number::{
     NumberForm, ZERO, decimal_value, lesser, number_fault, numbers_fault, up_to_value, whole_value,

@@ -1,7 +1,8 @@
 ghost use Rattle.std.specs.Prelude.{◌≡◌, IfOk, map};
 ghost use Rattle.dec_text.specs.Spans.{bytes_at};
-ghost use Rattle.deck_shape.specs.Lists.{fault_if, has_other_length, names_repeat};
+ghost use Rattle.deck_shape.specs.Lists.{fault_if, has_other_length, names_fault, names_repeat};
 
+use crate::kind::{LIST_LENGTH, REPEATED_NAME};
 use dec_text::Span;
 use kmc_base::OutOfMemory;
 use std::alloc::Global;
@@ -14,8 +15,8 @@ pub fn fault_if(holds: bool, kind: u8) -> Option<u8>
     if holds { Some(kind) } else { None }
 }
 
-/// A list has another length than is stated; None stands for a stated number that has a fault itself, and no length
-/// differs from that.
+/// A list has another length than is stated; `None` means that the stated number has a fault itself, and no
+/// length differs from that.
 pub fn has_other_length(count: Option<u64>, members: usize) -> bool
     ensures { result ≡ has_other_length count members }
 {
@@ -25,7 +26,7 @@ pub fn has_other_length(count: Option<u64>, members: usize) -> bool
     }
 }
 
-/// A name stands twice in a list.
+/// A list has a name twice.
 pub fn names_repeat(alloc: Global, bytes: &[u8], names: &[Span]) -> Result<bool, OutOfMemory>
     ensures { IfOk result (λ repeat. repeat ≡ names_repeat (map (bytes_at bytes.now) names.now)) }
 {
@@ -36,4 +37,20 @@ pub fn names_repeat(alloc: Global, bytes: &[u8], names: &[Span]) -> Result<bool,
         }
     }
     Ok(false)
+}
+
+/// The fault of a list of names: that of another length than is stated comes before that of a name that repeats.
+pub fn names_fault(
+    alloc: Global,
+    count: Option<u64>,
+    bytes: &[u8],
+    names: &[Span],
+) -> Result<Option<u8>, OutOfMemory>
+    ensures { IfOk result (λ kind. kind ≡ names_fault count (map (bytes_at bytes.now) names.now)) }
+{
+    if has_other_length(count, names.len()) {
+        return Ok(Some(LIST_LENGTH));
+    }
+    let repeat = names_repeat(alloc, bytes, names)?;
+    Ok(fault_if(repeat, REPEATED_NAME))
 }

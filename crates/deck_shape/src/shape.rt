@@ -1,4 +1,4 @@
-ghost use Rattle.std.specs.Prelude.{◌≡◌, ℕ, List, IfOk, map};
+ghost use Rattle.std.specs.Prelude.{◌≡◌, ◌∷◌, [], ℕ, List, IfOk, length, map};
 ghost use Rattle.std.specs.List.{find};
 ghost use Rattle.std.specs.Option.{option_map};
 ghost use Rattle.dec_text.specs.Spans.{bytes_at, line_at, run_at};
@@ -116,4 +116,14 @@ impl Block {
 pub struct Shape {
     /// The one block of the file.
     pub blocks: Sequence<Block>,
+    ghost one: { length blocks ≡ 1 },
+}
+
+impl Shape {
+    /// The one block of the file.
+    pub fn block(&self) -> &Block
+        ensures { (text : List ℕ) → map (block_at text) self.now.blocks ≡ block_at text result.now ∷ [] }
+    {
+        &self.blocks.as_slice()[0]
+    }
 }
