@@ -4,7 +4,7 @@ use Rattle.std.proofs.Common.{inl, inr, ap, sym, ◌∙◌, arith, refl}
 use Rattle.std.specs.Prelude.{option_and_then}
 use Rattle.std.specs.List.{AllByRecursion}
 use Rattle.std.specs.Option.{option_map}
-use Rattle.std.proofs.lemmas.Bool.{and_cases, cases_Bool, cases_eq, eq-eqb, eqb-false, eqb-true, ltb-false, not-false, or_left, or_right, true≢false}
+use Rattle.std.proofs.lemmas.Bool.{and_cases, cases_Bool, cases_eq, eq-eqb, eqb-false, eqb-true, ltb-false, not-false, or_left, or_parts, or_right, true≢false}
 use Rattle.dec_text.specs.Lines.{WordLine}
 use Rattle.deck_shape.specs.Lists.{has_other_length}
 use Rattle.deck_shape.specs.declared.kind.TheConstants.{BAD_EDGE, ROW_FORM, SELF_NEIGHBOUR}
@@ -14,7 +14,8 @@ use Rattle.lattice_cell.specs.Periodic.{neighbour_lists}
 use Rattle.lattice_cell.specs.declared.cell.Join.{Join}
 use Rattle.lattice_cell.specs.declared.cell.Toward.{Toward}
 use Rattle.lattice_cell.specs.declared.cell.Toward.TheVariants.{Own, North, Northeast, East, Southeast}
-use Rattle.deck_shape.specs.FirstFault.{fault_or, first_of_lines, line_fault}
+use Rattle.deck_shape.specs.FirstFault.{first_of_lines}
+use Rattle.deck_shape.proofs.FirstFaults.{line_none}
 use Rattle.site_rows.specs.Words.{row_words, is_no_site}
 use Rattle.lattice_deck.specs.Faultless.{IsCell}
 use Rattle.lattice_deck.specs.Faults.{row_lines}
@@ -27,18 +28,6 @@ use Rattle.lattice_deck.proofs.Displacements.{is_back, leads}
 use Rattle.lattice_deck.proofs.JoinedSites.{LeadsAway, none_itself}
 use Rattle.lattice_deck.proofs.SoundNeighbours.{no_fault}
 
-pub both_none : (a b : Option (ℕ × ℕ)) → fault_or a b ≡ None → (a ≡ None) × (b ≡ None)
-both_none None b h = (refl, h)
-both_none (Some a) b h = cc
-
-no_line : (line : ℕ) (kind : Option ℕ) → line_fault line kind ≡ None → kind ≡ None
-no_line line None h = refl
-no_line line (Some k) h = cc
-
--- the first of some lines has no fault, and neither have those behind it
-pub line_none : (line : ℕ) (kind : Option ℕ) (rest : Option (ℕ × ℕ)) → fault_or (line_fault line kind) rest ≡ None → (kind ≡ None) × (rest ≡ None)
-line_none line kind rest none = let parts = both_none (line_fault line kind) rest none in (no_line line kind parts.0, parts.1)
-
 is_site : (sites n : ℕ) → is_no_site (Some sites) n ≡ false → (1 ≤ n) × (n ≤ sites)
 is_site sites n is =
     elim (cases_eq n 0) [
@@ -48,10 +37,6 @@ is_site sites n is =
         | inr within ↦ let few = ltb-false sites n within in (omega arith, few)
       ]
     ]
-
-or_neither : (a b : Bool) → (a || b) ≡ false → (a ≡ false) × (b ≡ false)
-or_neither false b h = (refl, h)
-or_neither true b h = cc
 
 module _ (sites nx ny : ℕ) (columns : 1 ≤ nx) (rows : 1 ≤ ny) where
   back_is : (t : Toward) → leads_back (Some (nx, ny)) t ≡ is_back nx ny t
@@ -74,7 +59,7 @@ module _ (sites nx ny : ℕ) (columns : 1 ≤ nx) (rows : 1 ≤ ny) where
   row_known : (row : JoinRow) → has_bad_end (Some sites) row ≡ false → joins_itself (Some (nx, ny)) row ≡ false
       → (join : Join) × (sound_join sites row ≡ Some join) × IsInCell sites join × LeadsAway nx ny join
   row_known row good apart =
-      let ends = or_neither (is_no_site (Some sites) row.from) (is_no_site (Some sites) row.to) good in
+      let ends = or_parts (is_no_site (Some sites) row.from) (is_no_site (Some sites) row.to) good in
       let first = is_site sites row.from ends.0 in
       let second = is_site sites row.to ends.1 in
       let join : Join = record { from = row.from - 1; to = row.to - 1; toward = row.toward } in

@@ -1,7 +1,7 @@
 -- the words of a default lattice
 use Rattle.std.proofs.Common.{◌≡◌, ℕ, ◌*◌, ◌≤◌, ◌==◌, ◌||◌, ◌⊎◌, Bool, true, false, List, [], ◌∷◌, Option, None, Some, inl, inr, ap, sym}
 use Rattle.std.proofs.Common.{◌∙◌, arith, refl}
-use Rattle.std.proofs.lemmas.Bool.{cases_eq, eqb-false, ltb-false}
+use Rattle.std.proofs.lemmas.Bool.{cases_eq, eqb-false, ltb-false, or_parts}
 use Rattle.kmc_base.specs.declared.limits.TheConstants.{MAX_SITES}
 use Rattle.deck_shape.specs.Lists.{fault_if}
 use Rattle.deck_shape.specs.Numbers.{lesser, number_fault, numbers_fault}
@@ -14,7 +14,8 @@ use Rattle.lattice_deck.specs.Faults.{is_narrow}
 use Rattle.lattice_deck.specs.Parts.{behind_constant}
 use Rattle.lattice_deck.specs.Sizes.{AreRepeats, gives_too_many, repeats_kind, repeats_of}
 use Rattle.lattice_deck.specs.declared.forms.TheConstants.{REPEAT}
-use Rattle.lattice_deck.proofs.SizesSound.{neither, not_held, repeats_known, repeats_range}
+use Rattle.deck_shape.proofs.Least.{holds_not, neither}
+use Rattle.lattice_deck.proofs.SizesSound.{repeats_known, repeats_range}
 
 -- repeats of which neither is 1
 pub record AreWide (repeats : ℕ × ℕ) : Type 0 where
@@ -22,16 +23,12 @@ pub record AreWide (repeats : ℕ × ℕ) : Type 0 where
   pub rows : 2 ≤ repeats.1
   pub few : repeats.0 * repeats.1 ≤ MAX_SITES
 
-or_neither : (a b : Bool) → (a || b) ≡ false → (a ≡ false) × (b ≡ false)
-or_neither false b h = (refl, h)
-or_neither true b h = cc
-
 two : (n : ℕ) → 1 ≤ n → (n ≡ 1 → ⊥) → 2 ≤ n
 two n some more = elim (cases_eq n 1) [ inl e ↦ absurd (more e) | inr h ↦ omega arith ]
 
 wide : (r : ℕ × ℕ) → AreRepeats r → is_narrow (Some r) ≡ false → gives_too_many (Some 1) (Some r) ≡ false → AreWide r
 wide r some narrow many =
-    let parts = or_neither (r.0 == 1) (r.1 == 1) narrow in
+    let parts = or_parts (r.0 == 1) (r.1 == 1) narrow in
     let few = ltb-false MAX_SITES (r.0 * r.1 * 1) many in
     let first = eqb-false r.0 1 parts.0 in
     let second = eqb-false r.1 1 parts.1 in
@@ -58,9 +55,9 @@ default_known (a ∷ x ∷ y ∷ []) is =
     let known = repeats_known x y kinds.0 in
     let same = known.1 in
     let range : AreRepeats known.0 = rw same at (repeats_range repeats) in
-    let narrow : is_narrow (Some known.0) ≡ false = ap is_narrow (sym same) ∙ not_held (is_narrow (repeats_of repeats)) SELF_NEIGHBOUR inner.1 in
+    let narrow : is_narrow (Some known.0) ≡ false = ap is_narrow (sym same) ∙ holds_not (is_narrow (repeats_of repeats)) SELF_NEIGHBOUR inner.1 in
     let many : gives_too_many (Some 1) (Some known.0) ≡ false = ap (gives_too_many (Some 1)) (sym same)
-    ∙ not_held (gives_too_many (Some 1) (repeats_of repeats)) TOO_MANY_SITES kinds.1 in
+    ∙ holds_not (gives_too_many (Some 1) (repeats_of repeats)) TOO_MANY_SITES kinds.1 in
     (known.0, same, wide known.0 range narrow many)
 
 -- neighbours without a fault leave want of memory alone

@@ -1,23 +1,15 @@
 -- the first fault of some lines
 use Rattle.std.proofs.Common.{◌≡◌, ℕ, ◌+◌, ◌<◌, true, false, List, length, map, get_or, drop, Option, None, Some, is_some, ap, sym, ◌∙◌, refl}
-use Rattle.std.proofs.lemmas.Bool.{false≢true, true≢false}
 use Rattle.dec_text.specs.Spans.{line_at}
 use Rattle.dec_text.specs.declared.lines.Line.{Line}
 use Rattle.deck_shape.specs.Blocks.{item_at}
 use Rattle.deck_shape.specs.declared.shape.Item.{Item}
+use Rattle.deck_shape.proofs.FirstFaults.{none_first, some_first}
 use Rattle.deck_shape.specs.FirstFault.{fault_or, first_of_lines, line_fault}
 use Rattle.site_rows.specs.Words.{row_words}
 use Rattle.lattice_deck.specs.Faults.{fault_among, item_fault, row_lines}
 use Rattle.lattice_deck.specs.declared.sizes.Sizes.{Sizes}
 use Rattle.lattice_deck.proofs.Maps.{next_mapped}
-
-some_first : (a b : Option (ℕ × ℕ)) → is_some a ≡ true → fault_or a b ≡ a
-some_first None b h = absurd (false≢true h)
-some_first (Some a) b h = refl
-
-none_first : (a b : Option (ℕ × ℕ)) → is_some a ≡ false → fault_or a b ≡ b
-none_first None b h = refl
-none_first (Some a) b h = absurd (true≢false h)
 
 module _ (kind : List (List ℕ) → Option ℕ) (text : List ℕ) (rows : List Line) (i : ℕ) (row : Line)
     (here : i < length rows) (is : row ≡ get_or rows i row) where

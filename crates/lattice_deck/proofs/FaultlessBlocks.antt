@@ -1,11 +1,11 @@
--- A whole block without a faulty value has all that its values go by.
+-- A block without faults has every line that its values need.
 use Rattle.std.proofs.Common.{◌≡◌, ℕ, ◌*◌, ◌≤◌, ◌||◌, Bool, true, false, not, cond, List, [], ◌∷◌, length, Option, None, Some, IfSome}
 use Rattle.std.proofs.Common.{IsSomeAnd, is_none, unwrap_or, if◌then◌else◌, inl, inr, ap, sym, subst, ◌∙◌, arith, refl}
 use Rattle.std.specs.Prelude.{option_and_then}
 use Rattle.std.specs.Cmp.Lexicographic.{same_text}
 use Rattle.std.specs.List.{AllByRecursion, find, list_any}
 use Rattle.std.specs.Option.{option_map, option_map_or}
-use Rattle.std.proofs.lemmas.Bool.{cases_Bool, eqb-true, false≢true, not-false}
+use Rattle.std.proofs.lemmas.Bool.{cases_Bool, eqb-true, false≢true, not-false, or_parts}
 use Rattle.std.proofs.lemmas.List.{length-map}
 use Rattle.dec_text.specs.Lines.{Run}
 use Rattle.dec_text.specs.Wholes.{whole_number}
@@ -45,9 +45,11 @@ use Rattle.lattice_deck.specs.declared.forms.TheConstants.{FORMS, REPEAT, SITE_C
 use Rattle.lattice_deck.specs.declared.sizes.Sizes.{Sizes}
 use Rattle.site_rows.specs.RowFaults.{first_fault as first_row_fault}
 use Rattle.site_rows.specs.declared.faults.RowFault.{RowFault}
-use Rattle.lattice_deck.proofs.CellJoins.{both_none, line_none, same_count}
+use Rattle.lattice_deck.proofs.CellJoins.{same_count}
+use Rattle.deck_shape.proofs.FirstFaults.{both_none, line_none}
+use Rattle.deck_shape.proofs.Least.{holds_not, neither}
 use Rattle.deck_shape.proofs.Maps.{IfSome-find}
-use Rattle.lattice_deck.proofs.SizesSound.{neither, not_held, repeats_known, sizes_sound, whole_known}
+use Rattle.lattice_deck.proofs.SizesSound.{repeats_known, sizes_sound, whole_known}
 use Rattle.site_rows.specs.declared.type_word.TheConstants.{MAX_SITE_TYPES}
 
 -- a word line that stands is found, and passes what it was sought by
@@ -162,10 +164,6 @@ one_of_two : (a b : Option ℕ) (n : ℕ) → b ≡ Some n → (m : ℕ) × (or_
 one_of_two None b n is = (n, is)
 one_of_two (Some m) b n is = (m, refl)
 
-or_neither : (a b : Bool) → (a || b) ≡ false → (a ≡ false) × (b ≡ false)
-or_neither false b h = (refl, h)
-or_neither true b h = cc
-
 or_false : (a : Bool) → a ≡ (a || false)
 or_false true = refl
 or_false false = refl
@@ -186,7 +184,7 @@ module _ (kind : BlockForm) (items : List ItemLines) where
       let kinds = neither (fault_if (has_other_length (sizes_in items).types (length (words_of n.item))) LIST_LENGTH)
       (fault_if (names_repeat (words_of n.item)) REPEATED_NAME)
       ((formed kind items SiteTypeNames n TypeNames refl).0) in
-      let each = not_held (has_other_length (sizes_in items).types (length (words_of n.item))) LIST_LENGTH kinds.0 in
+      let each = holds_not (has_other_length (sizes_in items).types (length (words_of n.item))) LIST_LENGTH kinds.0 in
       let list = list_behind kind items SiteTypeNames n in
       let count : length (list_in SiteTypeNames items) ≡ number.0 =
       ap length list ∙ same_count (sizes_in items).types number.0 (length (words_of n.item)) types each in
@@ -194,13 +192,13 @@ module _ (kind : BlockForm) (items : List ItemLines) where
         one_each = types ∙ ap Some (sym count);
         some = subst (λ m. 1 ≤ m) (sym count) range.0;
         few = subst (λ m. m ≤ MAX_SITE_TYPES) (sym count) range.1;
-        differ = ap names_repeat list ∙ not_held (names_repeat (words_of n.item)) REPEATED_NAME kinds.1;
+        differ = ap names_repeat list ∙ holds_not (names_repeat (words_of n.item)) REPEATED_NAME kinds.1;
       }
 
 not_found : (p : ItemLines → Bool) (items : List ItemLines) → list_any p items ≡ false → find p items ≡ None
 not_found p [] is = refl
 not_found p (item ∷ items) is =
-    let parts = or_neither (p item) (list_any p items) is in
+    let parts = or_parts (p item) (list_any p items) is in
     ap (λ b. cond b (Some item) (find p items)) parts.0 ∙ not_found p items parts.1
 
 -- a default lattice
@@ -257,7 +255,7 @@ module _ (items : List ItemLines) (known : AllByRecursion (IsKnown PeriodicCell)
       let words = list_behind PeriodicCell items SiteTypes l in
       let types : length (list_in SiteTypes items) ≡ number.0 =
       ap length words ∙ same_count (sizes_in items).sites number.0 (length (words_of l.item)) sites
-      (not_held (has_other_length (sizes_in items).sites (length (words_of l.item))) LIST_LENGTH
+      (holds_not (has_other_length (sizes_in items).sites (length (words_of l.item))) LIST_LENGTH
       ((formed PeriodicCell items SiteTypes l Types refl).0)) in
       let stated_repeats = repeated_by (sites_in items) (words_of r.item)
       (eqb-true (length (words_of r.item)) 2 (counted PeriodicCell items RepeatCell r _ refl))
@@ -273,7 +271,7 @@ module _ (items : List ItemLines) (known : AllByRecursion (IsKnown PeriodicCell)
             (sym types) (repeats_within items number.0 stated_repeats.0 sites repeats);
         type_names = names_sound PeriodicCell items t n (eqb-true (length (words_of t.item)) 1 (counted PeriodicCell items NSiteTypes t _ refl));
         few_neighbours = ap (crowds (sizes_in items)) (rows_behind PeriodicCell items NeighboringStructure j)
-            ∙ not_held (crowds (sizes_in items) j.item.rows) TOO_MANY_NEIGHBOURS joins.0;
+            ∙ holds_not (crowds (sizes_in items) j.item.rows) TOO_MANY_NEIGHBOURS joins.0;
         sound_rows = ap (rows_fault (sizes_in items) Joins) (rows_behind PeriodicCell items NeighboringStructure j) ∙ joins.1;
       }
 
@@ -303,7 +301,7 @@ module _ (items : List ItemLines) (known : AllByRecursion (IsKnown Explicit) ite
       let lines = rows_behind Explicit items LatticeStructure j in
       let count : length (rows_in LatticeStructure items) ≡ known_sites.0 =
       ap length lines ∙ same_count (sizes_in items).sites known_sites.0 (length j.item.rows) sites
-      (not_held (has_other_length (sizes_in items).sites (length j.item.rows)) ROW_COUNT rows.0) in
+      (holds_not (has_other_length (sizes_in items).sites (length j.item.rows)) ROW_COUNT rows.0) in
       record {
         one_row_each = sites ∙ ap Some (sym count);
         some_sites = subst (λ n. 1 ≤ n) (sym count) range.0;
@@ -317,7 +315,7 @@ all_there : (items : List ItemLines) (rules : List Rule) → list_any (is_missin
     → AllByRecursion (λ rule. is_missing items rule ≡ false) rules
 all_there items [] none = tt
 all_there items (rule ∷ rules) none =
-    let parts = or_neither (is_missing items rule) (list_any (is_missing items) rules) none in
+    let parts = or_parts (is_missing items rule) (list_any (is_missing items) rules) none in
     (parts.0, all_there items rules parts.1)
 
 by_kind : (kind : BlockForm) (items : List ItemLines) → IsLatticeForm kind → AllByRecursion (IsKnown kind) items

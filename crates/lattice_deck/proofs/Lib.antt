@@ -6,7 +6,6 @@ mod DefaultWords
 mod Displacements
 mod FaultLines
 mod FaultlessBlocks
-mod FormTable
 mod JoinLists
 mod JoinedSites
 mod RowOrder

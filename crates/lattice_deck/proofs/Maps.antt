@@ -6,9 +6,3 @@ pub next_mapped : {X Y : Type 0} (h : X → Y) (xs : List X) (i : ℕ) (x : X) �
     → map h (drop i xs) ≡ h x ∷ map h (drop (i + 1) xs)
 next_mapped h xs i x here is =
     ap (map h) (drop-cons xs i x here ∙ ap (λ y. y ∷ drop (suc i) xs) (sym is) ∙ ap (λ j. x ∷ drop j xs) (sym (add-one i)))
-
--- a list of one member
-pub the_one : {X : Type 0} (xs : List X) (x : X) → length xs ≡ 1 → x ≡ get_or xs 0 x → xs ≡ x ∷ []
-the_one [] x one is = absurd (omega arith)
-the_one (y ∷ []) x one is = ap (λ z. z ∷ []) (sym is)
-the_one (y ∷ z ∷ ys) x one is = absurd (omega arith)

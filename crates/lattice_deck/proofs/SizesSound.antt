@@ -14,6 +14,7 @@ use Rattle.deck_shape.specs.Numbers.{is_whole_within, lesser, numbers_fault, who
 use Rattle.deck_shape.specs.declared.keyword.Keyword.{Keyword}
 use Rattle.deck_shape.specs.declared.keyword.Keyword.TheVariants.{NCellSites, NSiteTypes, NSites, RepeatCell}
 use Rattle.deck_shape.specs.declared.kind.TheConstants.{OUT_OF_RANGE, TOO_MANY_SITES}
+use Rattle.deck_shape.proofs.Least.{holds_not, neither}
 use Rattle.lattice_deck.specs.Sizes.{AreRepeats, IsSizes, gives_too_many, or_else, repeats_kind, repeats_of, sites_in, sizes_in}
 use Rattle.lattice_deck.specs.Sizes.{sound_repeats, stated, whole_of}
 use Rattle.lattice_deck.specs.declared.forms.TheConstants.{REPEAT}
@@ -79,18 +80,6 @@ second_none (Some a) (Some b) h =
     absurd (elim (nat_le a b) as (λ c. is_none (if c then Some a else Some b) ≡ true
     → ⊥) [ true ↦ (λ k. false≢true k) | false ↦ (λ k. false≢true k) ] h)
 
-pub not_held : (holds : Bool) (kind : ℕ) → fault_if holds kind ≡ None → holds ≡ false
-not_held false kind h = refl
-not_held true kind h = cc
-
--- neither of two kinds holds
-pub neither : (a b : Option ℕ) → lesser a b ≡ None → (a ≡ None) × (b ≡ None)
-neither None b h = (refl, h)
-neither (Some a) None h = cc
-neither (Some a) (Some b) h =
-    absurd (elim (nat_le a b) as (λ c. (if c then Some a else Some b) ≡ None
-    → ⊥) [ true ↦ (λ k. cc) | false ↦ (λ k. cc) ] h)
-
 -- a whole number without a fault is known
 whole_in : (most n : ℕ) (b : Bool) → is_whole_within 1 most n ≡ b → (if b then None else Some OUT_OF_RANGE) ≡ None
     → (m : ℕ) × ((if nat_lt 0 (if b then n else 0) then Some (if b then n else 0) else None) ≡ Some m)
@@ -126,7 +115,7 @@ few_repeats sites words nx ny is =
     elim (cases_Bool (is_none (repeats_kind (Some sites) words))) [
       | inl none ↦
           let same : repeats_of words ≡ Some (nx, ny) = rw none at is in
-          let few = not_held (gives_too_many (Some sites) (repeats_of words)) TOO_MANY_SITES
+          let few = holds_not (gives_too_many (Some sites) (repeats_of words)) TOO_MANY_SITES
           (second_none (numbers_fault REPEAT words)
           (fault_if (gives_too_many (Some sites) (repeats_of words)) TOO_MANY_SITES) none) in
           ltb-false MAX_SITES (nx * ny * sites) (rw same at few)

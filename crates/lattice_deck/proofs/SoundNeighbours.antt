@@ -21,6 +21,7 @@ use Rattle.lattice_core.proofs.Rising.{is_listed-filter, is_listed-range}
 use Rattle.lattice_cell.specs.declared.cell.Join.{Join}
 use Rattle.lattice_cell.specs.Periodic.{are_joined, neighbour_lists}
 use Rattle.lattice_cell.proofs.Joining.{are_joined-flip}
+use Rattle.lattice_cell.proofs.Merged.{length-neighbour_lists}
 
 -- what holds of each listed number holds of each number
 all_listed : (P : ℕ → Type 0) (xs : List ℕ) → ((t : ℕ) → is_listed xs t ≡ true → P t) → All P xs
@@ -38,10 +39,6 @@ none_among lists (x ∷ xs) none =
     cond-false _ _ _ (ap is_some (none x (or_left _ _ (eq-eqb x x refl)))) ∙ none_among lists xs (λ s listed. none s (or_right _ _ listed))
 
 module _ (nx ny sites : ℕ) (joins : List Join) where
-  length-lists : length (neighbour_lists nx ny sites joins) ≡ nx * ny * sites
-  unfolding neighbour_lists
-  length-lists = length-map-range_with_len (λ s. filter (are_joined nx ny sites joins s) (range_with_len 0 (nx * ny * sites))) 0 (nx * ny * sites)
-
   pub list_of-lists : (s : ℕ) → s < nx * ny * sites
       → list_of (neighbour_lists nx ny sites joins) s ≡ filter (are_joined nx ny sites joins s)
       (range_with_len 0 (nx * ny * sites))
@@ -74,7 +71,7 @@ module _ (nx ny sites : ℕ) (joins : List Join) where
       → list_any (λ list. nat_lt MAX_NEIGHBOURS (length list)) (neighbour_lists nx ny sites joins) ≡ false
   few_lists few = false_from_ne_true _ (λ some.
       let found = Any-from_list_any (λ list. nat_lt MAX_NEIGHBOURS (length list)) (neighbour_lists nx ny sites joins) some in
-      let low : found.0 < nx * ny * sites = omega (arith, length-lists, found.2) in
+      let low : found.0 < nx * ny * sites = omega (arith, length-neighbour_lists nx ny sites joins, found.2) in
       let is : list_of (neighbour_lists nx ny sites joins) found.0 ≡ found.1 =
       get_or_default (neighbour_lists nx ny sites joins) found.0 [] found.1 found.2 ∙ found.3 in
       let long = ltb-true MAX_NEIGHBOURS (length found.1) found.4 in
@@ -90,7 +87,7 @@ module _ (nx ny sites : ℕ) (joins : List Join) where
     sound_site s within =
         let list = list_of (neighbour_lists nx ny sites joins) s in
         let lists = neighbour_lists nx ny sites joins in
-        let count = length-lists in
+        let count = length-neighbour_lists nx ny sites joins in
         let below : All (λ t. t < length lists) list =
         all_listed (λ t. t < length lists) list (λ t is. let low = (named s t within is).0 in omega arith) in
         let rising : IsStrictlyIncreasing list =
@@ -116,5 +113,5 @@ module _ (nx ny sites : ℕ) (joins : List Join) where
 
     pub no_fault : first_fault (neighbour_lists nx ny sites joins) ≡ None
     no_fault = none_among (neighbour_lists nx ny sites joins) (range_with_len 0 (length (neighbour_lists nx ny sites joins))) (λ s is.
-        let low : is_listed (range_with_len 0 (nx * ny * sites)) s ≡ true = ap (λ n. is_listed (range_with_len 0 n) s) (sym length-lists) ∙ is in
+        let low : is_listed (range_with_len 0 (nx * ny * sites)) s ≡ true = ap (λ n. is_listed (range_with_len 0 n) s) (sym (length-neighbour_lists nx ny sites joins)) ∙ is in
         sound_site s (out_of_range s low))

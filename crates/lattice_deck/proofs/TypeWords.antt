@@ -4,6 +4,7 @@ use Rattle.std.specs.List.{find}
 use Rattle.std.specs.Option.{option_map}
 use Rattle.std.proofs.lemmas.Bool.{cases_Bool}
 use Rattle.dec_text.specs.Spans.{bytes_at}
+use Rattle.deck_shape.proofs.Maps.{find-map}
 use Rattle.deck_shape.specs.Names.{NameWord, name_at}
 use Rattle.deck_shape.specs.declared.kind.TheConstants.{UNKNOWN_TYPE}
 use Rattle.deck_shape.specs.declared.name.Name.{Name}
@@ -14,10 +15,6 @@ option_twice : {X Y Z : Type 0} (f : Y → Z) (h : X → Y) (o : Option X) → o
 option_twice f h None = refl
 option_twice f h (Some x) = refl
 
-find_mapped : {X Y : Type 0} (p : X → Bool) (h : Y → X) (ys : List Y) → option_map h (find (λ y. p (h y)) ys) ≡ find p (map h ys)
-find_mapped p h [] = refl
-find_mapped p h (y ∷ ys) = ⊎_elim (λ e. rw e refl) (λ e. rw e (find_mapped p h ys)) (cases_Bool (p (h y)))
-
 -- the first name that is no type gives the first type word that is none
 pub unknown_word : (text : List ℕ) (names : List (List ℕ)) (words : List Name) (r : Option Name)
     → r ≡ find (λ word. type_of names (bytes_at text word.span) == 0) words
@@ -26,4 +23,4 @@ unknown_word text names words r is =
     let f : NameWord → ℕ × ℕ = λ word. (word.line, UNKNOWN_TYPE) in
     let g : Name → ℕ × ℕ = λ word. (word.line, UNKNOWN_TYPE) in
     ap (option_map g) is ∙ option_twice f (name_at text) _
-    ∙ ap (option_map f) (find_mapped (λ (word : NameWord). type_of names word.word.bytes == 0) (name_at text) words)
+    ∙ ap (option_map f) (find-map (λ (word : NameWord). type_of names word.word.bytes == 0) (name_at text) words)

@@ -6,7 +6,7 @@ use Rattle.deck_shape.specs.Blocks.{BlockLines, ItemLines}
 use Rattle.deck_shape.specs.Forms.{form_of}
 use Rattle.deck_shape.specs.WordLines.{words_of}
 use Rattle.deck_shape.specs.LineWords.{head_of}
-use Rattle.deck_shape.specs.Lists.{fault_if, has_other_length}
+use Rattle.deck_shape.specs.Lists.{fault_if, has_other_length, names_fault}
 use Rattle.deck_shape.specs.Numbers.{lesser, number_fault, numbers_fault}
 use Rattle.deck_shape.specs.declared.kind.TheConstants.{LIST_LENGTH, ROW_COUNT, SELF_NEIGHBOUR, TOO_MANY_NEIGHBOURS}
 use Rattle.deck_shape.specs.declared.number.NumberForm.TheVariants.{Unused}
@@ -15,7 +15,6 @@ use Rattle.lattice_deck.specs.RowKinds.{kind_of}
 use Rattle.lattice_deck.specs.Coordinates.{coordinates_kind}
 use Rattle.lattice_deck.specs.Joins.{crowds, join_kind}
 use Rattle.lattice_deck.specs.Sizes.{repeats_kind, repeats_of, sizes_in}
-use Rattle.lattice_deck.specs.Types.{type_names_kind}
 use Rattle.lattice_deck.specs.declared.forms.Form.{Form}
 use Rattle.lattice_deck.specs.declared.forms.Form.TheVariants.{NumberForm, Repeats, TypeNames, Types, Coordinates, Joins, SiteRows, Default}
 use Rattle.lattice_deck.specs.declared.forms.RowCount.{RowCount}
@@ -49,7 +48,7 @@ default_kind (constant ∷ repeats) =
 abbrev pub word_kind : Sizes → Form → ItemLines → Option ℕ
 word_kind sizes (NumberForm number) item = numbers_fault number (words_of item)
 word_kind sizes Repeats item = repeats_kind sizes.sites (words_of item)
-word_kind sizes TypeNames item = type_names_kind sizes.types (words_of item)
+word_kind sizes TypeNames item = names_fault sizes.types (words_of item)
 word_kind sizes Types item = fault_if (has_other_length sizes.sites (length (words_of item))) LIST_LENGTH
 word_kind sizes (Coordinates count) item = rows_kind (row_count sizes count) item.rows
 word_kind sizes Joins item = fault_if (crowds sizes item.rows) TOO_MANY_NEIGHBOURS

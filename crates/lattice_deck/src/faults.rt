@@ -1,7 +1,7 @@
 ghost use Rattle.std.specs.Prelude.{◌≡◌, IfOk, IfSome, List, ℕ, map};
 ghost use Rattle.dec_text.specs.Spans.{bytes_at, line_at};
 ghost use Rattle.deck_shape.specs.Blocks.{ItemLines, block_at, item_at};
-ghost use Rattle.deck_shape.specs.FirstFault.{fault_or, first_of_lines, line_fault};
+ghost use Rattle.deck_shape.specs.FirstFault.{first_of_lines};
 ghost use Rattle.deck_shape.specs.Forms.{form_of};
 ghost use Rattle.lattice_deck.specs.Coordinates.{coordinates_kind as spec_coordinates_kind};
 ghost use Rattle.lattice_deck.specs.Faults.{default_kind, fault_among, first_fault, form_fault, is_narrow, item_fault, row_count, row_lines, rows_fault, rows_kind, word_kind};
@@ -16,11 +16,11 @@ use crate::forms::{FORMS, Form, RowCount};
 use crate::joins::{crowds, join_kind};
 use crate::row_kinds::site_rows_fault;
 use crate::sizes::{Sizes, repeats_kind, repeats_of, sizes_in};
-use crate::types::type_names_kind;
 use dec_text::{Line, Span};
 use deck_shape::kind::{LIST_LENGTH, ROW_COUNT, SELF_NEIGHBOUR, TOO_MANY_NEIGHBOURS};
 use deck_shape::{
-    Block, Item, NumberForm, fault_if, has_other_length, lesser, number_fault, numbers_fault,
+    Block, Item, NumberForm, fault_if, fault_or, has_other_length, lesser, line_fault, names_fault,
+    number_fault, numbers_fault,
 };
 use kmc_base::OutOfMemory;
 use site_rows::row_words;
@@ -108,32 +108,12 @@ fn word_kind(
     match form {
         Form::NumberForm(number) => Ok(numbers_fault(number, bytes, words)),
         Form::Repeats => Ok(repeats_kind(sizes.sites, bytes, words)),
-        Form::TypeNames => type_names_kind(alloc, sizes.types, bytes, words),
+        Form::TypeNames => names_fault(alloc, sizes.types, bytes, words),
         Form::Types => Ok(fault_if(has_other_length(sizes.sites, words.len()), LIST_LENGTH)),
         Form::Coordinates(count) => Ok(rows_kind(row_count(sizes, count), rows)),
         Form::Joins => joins_kind(alloc, sizes, bytes, rows),
         Form::SiteRows => Ok(rows_kind(sizes.sites, rows)),
         Form::Default(_) => Ok(default_kind(bytes, words)),
-    }
-}
-
-/// A line and the kind of its fault.
-fn line_fault(line: u32, kind: Option<u8>) -> Option<(u32, u8)>
-    ensures { result ≡ line_fault line kind }
-{
-    match kind {
-        Some(kind) => Some((line, kind)),
-        None => None,
-    }
-}
-
-/// The first of two faults.
-fn fault_or(fault: Option<(u32, u8)>, later: Option<(u32, u8)>) -> Option<(u32, u8)>
-    ensures { result ≡ fault_or fault later }
-{
-    match fault {
-        Some(fault) => Some(fault),
-        None => later,
     }
 }
 

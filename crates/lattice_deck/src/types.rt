@@ -1,36 +1,17 @@
-//! The types of sites: the fault of their names, and type words that are no type.
+//! Type words that are no type.
 
-ghost use Rattle.std.specs.Prelude.{◌≡◌, ◌==◌, IfOk, map};
+ghost use Rattle.std.specs.Prelude.{◌≡◌, ◌==◌, map};
 ghost use Rattle.std.specs.List.{find};
 ghost use Rattle.std.specs.Option.{option_copied};
 ghost use Rattle.dec_text.specs.Spans.{bytes_at};
 ghost use Rattle.lattice_deck.specs.Parts.{values_at};
-ghost use Rattle.lattice_deck.specs.Types.{type_names_kind, unknown_type};
+ghost use Rattle.lattice_deck.specs.Types.{unknown_type};
 ghost use Rattle.site_rows.specs.TypeWords.{type_of};
 
 use crate::part::LatticePart;
-use dec_text::Span;
-use deck_shape::kind::{LIST_LENGTH, REPEATED_NAME, UNKNOWN_TYPE};
-use deck_shape::{Name, fault_if, has_other_length, names_repeat};
-use kmc_base::OutOfMemory;
+use deck_shape::Name;
+use deck_shape::kind::UNKNOWN_TYPE;
 use site_rows::type_of;
-use std::alloc::Global;
-
-/// The fault of the names of types: that of another number than is stated comes before that of a name that repeats.
-pub(crate) fn type_names_kind(
-    alloc: Global,
-    count: Option<u64>,
-    bytes: &[u8],
-    names: &[Span],
-) -> Result<Option<u8>, OutOfMemory>
-    ensures { IfOk result (λ kind. kind ≡ type_names_kind count (map (bytes_at bytes.now) names.now)) }
-{
-    if has_other_length(count, names.len()) {
-        return Ok(Some(LIST_LENGTH));
-    }
-    let repeat = names_repeat(alloc, bytes, names)?;
-    Ok(fault_if(repeat, REPEATED_NAME))
-}
 
 /// The first type word that is no number of a type and no name of one.
 fn first_unknown<'a>(bytes: &[u8], names: &[Vec<u8>], words: &'a [Name]) -> Option<&'a Name>

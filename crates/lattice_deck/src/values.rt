@@ -22,7 +22,7 @@ use deck_shape::{Block, BlockForm, Keyword, NO_WORD, Name};
 use kmc_base::{Sequence, OutOfMemory};
 use lattice_cell::{DefaultLattice, Join, expand_default, expand_periodic};
 use lattice_core::{Graph, GraphFault};
-use site_rows::type_of;
+use site_rows::TypeIndex;
 use std::alloc::Global;
 
 /// The rows of a word, none where it is absent.
@@ -35,8 +35,8 @@ fn rows_in<'a>(block: &'a Block, bytes: &[u8], keyword: Keyword) -> &'a [Line]
     }
 }
 
-/// The one fault of a lattice whose neighbours have none: want of memory.
-fn want_of_memory(fault: GraphFault) -> OutOfMemory
+/// The only fault of a lattice whose neighbours have none: out of memory.
+fn out_of_memory(fault: GraphFault) -> OutOfMemory
     requires { fault ≡ GraphFault.OutOfMemory }
 {
     match fault {
@@ -46,15 +46,15 @@ fn want_of_memory(fault: GraphFault) -> OutOfMemory
 }
 
 /// A default lattice of so many repeats.
-fn named_graph(alloc: Global, kind: DefaultLattice, nx: u64, ny: u64) -> Result<Graph, OutOfMemory>
+fn named_graph(alloc: Global, named: DefaultLattice, nx: u64, ny: u64) -> Result<Graph, OutOfMemory>
     requires columns { 2 ≤ nx }
     requires rows { 2 ≤ ny }
     requires few { nx * ny ≤ MAX_SITES }
-    ensures { IfOk result (λ g. g ≡ default_lattice kind nx ny) }
+    ensures { IfOk result (λ g. g ≡ default_lattice named nx ny) }
 {
-    match expand_default(alloc, kind, nx as u32, ny as u32) {
+    match expand_default(alloc, named, nx as u32, ny as u32) {
         Ok(graph) => Ok(graph),
-        Err(fault) => Err(want_of_memory(fault)),
+        Err(fault) => Err(out_of_memory(fault)),
     }
 }
 
@@ -71,15 +71,15 @@ fn behind_constant(words: &[Span]) -> &[Span]
 /// The default lattice of words without a fault.
 fn default_of(
     alloc: Global,
-    kind: DefaultLattice,
+    named: DefaultLattice,
     bytes: &[u8],
     words: &[Span],
 ) -> Result<Graph, OutOfMemory>
     requires { IsDefault (map (bytes_at bytes.now) words.now) }
-    ensures { IfOk result (λ g. g ≡ default_of kind (map (bytes_at bytes.now) words.now)) }
+    ensures { IfOk result (λ g. g ≡ default_of named (map (bytes_at bytes.now) words.now)) }
 {
     match repeats_of(bytes, behind_constant(words)) {
-        Some((nx, ny)) => named_graph(alloc, kind, nx, ny),
+        Some((nx, ny)) => named_graph(alloc, named, nx, ny),
         None => unreachable!(),
     }
 }
@@ -128,8 +128,24 @@ fn repeated_graph(
 {
     match expand_periodic(alloc, nx, ny, types, joins) {
         Ok(graph) => Ok(graph),
-        Err(fault) => Err(want_of_memory(fault)),
+        Err(fault) => Err(out_of_memory(fault)),
     }
+}
+
+/// The types of type words, by an index of the names.
+fn indexed_types(
+    alloc: Global,
+    bytes: &[u8],
+    index: &TypeIndex,
+    words: &[Span],
+) -> Result<Vec<u16>, OutOfMemory>
+    ensures { IfOk result (λ types. types.items ≡ map (type_of index.now) (map (bytes_at bytes.now) words.now)) }
+{
+    let mut types = Vec::new(alloc);
+    for word in words {
+        types.push(index.type_of(word.bytes(bytes)))?;
+    }
+    Ok(types)
 }
 
 /// The types of type words.
@@ -142,11 +158,8 @@ fn types_of(
     requires { length names.now ≤ MAX_SITE_TYPES }
     ensures { IfOk result (λ types. types.items ≡ map (type_of (map (λ name. name.items) names.now)) (map (bytes_at bytes.now) words.now)) }
 {
-    let mut types = Vec::new(alloc);
-    for word in words {
-        types.push(type_of(names, word.bytes(bytes)) as u16)?;
-    }
-    Ok(types)
+    let index = TypeIndex::new(alloc, names)?;
+    indexed_types(alloc, bytes, &index, words)
 }
 
 /// The lattice of a periodic cell.

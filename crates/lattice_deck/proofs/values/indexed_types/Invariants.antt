@@ -1,10 +1,9 @@
 use Rattle.std.proofs.Common.{◌≡◌, ◌++◌, drop, map}
 use Rattle.dec_text.specs.Spans.{bytes_at}
 use Rattle.site_rows.specs.TypeWords.{type_of}
-use Rattle.lattice_deck.proofs.values.types_of.Given as goal
+use Rattle.lattice_deck.proofs.values.indexed_types.Given as goal
 
 -- the types so far, and those that are left, are all of them
 abbrev pub invariant-loop-word : goal.invariant-loop-word
 invariant-loop-word l =
-    l.types.items ++ map (type_of (map (λ name. name.items) l.names)) (map (bytes_at l.bytes) (drop l.word-index l.words))
-    ≡ map (type_of (map (λ name. name.items) l.names)) (map (bytes_at l.bytes) l.words)
+    l.types.items ++ map (type_of l.index) (map (bytes_at l.bytes) (drop l.word-index l.words)) ≡ map (type_of l.index) (map (bytes_at l.bytes) l.words)
