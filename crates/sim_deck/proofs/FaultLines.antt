@@ -4,13 +4,10 @@ use Rattle.std.specs.Option.{option_map}
 use Rattle.std.proofs.Math.Seq.{drop-cons}
 use Rattle.deck_shape.specs.Blocks.{ItemLines, item_at}
 use Rattle.deck_shape.specs.declared.shape.Item.{Item}
+use Rattle.deck_shape.proofs.FirstFaults.{fault_or-assoc}
 use Rattle.deck_shape.specs.FirstFault.{fault_or}
 use Rattle.sim_deck.specs.Faults.{fault_among, item_kind}
 use Rattle.sim_deck.specs.Lists.{Counts}
-
-fault_or-assoc : (a b c : Option (ℕ × ℕ)) → fault_or a (fault_or b c) ≡ fault_or (fault_or a b) c
-fault_or-assoc None b c = refl
-fault_or-assoc (Some a) b c = refl
 
 -- the fault of the closing line comes behind those of the lines
 pub with_closing : (counts : Counts) (items : List ItemLines) (closing : Option (ℕ × ℕ))

@@ -4,7 +4,7 @@ use Rattle.std.proofs.Common.{Some, IfSome, IsSomeAnd, is_some, refl, ⊎_elim}
 use Rattle.std.specs.Cmp.Lexicographic.{same_text}
 use Rattle.std.specs.List.{AllByRecursion, find, list_any}
 use Rattle.std.specs.Option.{option_map, option_map_or}
-use Rattle.std.proofs.lemmas.Bool.{cases_Bool, eqb-true, false≢true}
+use Rattle.std.proofs.lemmas.Bool.{cases_Bool, eqb-true, false≢true, or_parts}
 use Rattle.std.proofs.lemmas.List.{length-map}
 use Rattle.deck_shape.specs.Blocks.{ItemLines, has_keyword, has_other, stands}
 use Rattle.deck_shape.specs.Forms.{form_of}
@@ -22,7 +22,7 @@ use Rattle.deck_shape.specs.declared.table.Need.TheVariants.{Required}
 use Rattle.deck_shape.specs.declared.table.Rule.{Rule}
 use Rattle.deck_shape.proofs.Maps.{IfSome-find}
 use Rattle.sim_deck.proofs.Maps.{is_some-find, is_some-map}
-use Rattle.sim_deck.proofs.NoFaults.{neither_holds, no_faults}
+use Rattle.sim_deck.proofs.NoFaults.{no_faults}
 use Rattle.sim_deck.specs.Faults.{fault_among, form_kind, item_kind}
 use Rattle.sim_deck.specs.Lists.{Counts}
 use Rattle.sim_deck.specs.declared.forms.Form.{Form}
@@ -84,7 +84,7 @@ one_behind items keyword one known =
 
 none_passes : {X : Type 0} (p : X → Bool) (xs : List X) → list_any p xs ≡ false → AllByRecursion (λ x. p x ≡ false) xs
 none_passes p [] none = tt
-none_passes p (x ∷ xs) none = let parts = neither_holds (p x) (list_any p xs) none in (parts.0, none_passes p xs parts.1)
+none_passes p (x ∷ xs) none = let parts = or_parts (p x) (list_any p xs) none in (parts.0, none_passes p xs parts.1)
 
 present : (is : Bool) → not (is || false) ≡ false → is ≡ true
 present true e = refl

@@ -1,5 +1,4 @@
 mod FaultLines
-mod FormTable
 mod KeywordLines
 mod Maps
 mod NoFaults

@@ -6,7 +6,9 @@ use Rattle.std.specs.Option.{option_map, option_map_or}
 use Rattle.std.proofs.lemmas.List.{length-map}
 use Rattle.std.proofs.lemmas.Option.{IfSome_then}
 use Rattle.std.proofs.lemmas.Simd.{map-map}
+use Rattle.std.proofs.lemmas.Bool.{or_parts}
 use Rattle.std.proofs.lemmas.Bool.Decides.{nat_tests}
+use Rattle.kmc_base.specs.declared.limits.TheConstants.{MAX_SPECIES}
 use Rattle.dec_text.specs.Wholes.{whole_number}
 use Rattle.dec_text.specs.declared.faults.NotWhole.{NotWhole}
 use Rattle.deck_shape.specs.Blocks.{BlockLines, ItemLines, has_keyword, stands}
@@ -21,7 +23,10 @@ use Rattle.deck_shape.specs.declared.keyword.Keyword.TheVariants.{SurfSpecsDent,
 use Rattle.deck_shape.specs.declared.kind.TheConstants.{BAD_NAME, LIST_LENGTH, REPEATED_NAME}
 use Rattle.sim_deck.proofs.KeywordLines.{no_fault_behind}
 use Rattle.sim_deck.proofs.Maps.{is_some-find}
-use Rattle.sim_deck.proofs.NoFaults.{holds_not, line_kind, neither, neither_holds, no_closing, none_mapped}
+use Rattle.deck_shape.proofs.FirstFaults.{no_line}
+use Rattle.deck_shape.proofs.Least.{holds_not, neither}
+use Rattle.deck_shape.specs.FirstFault.{line_fault}
+use Rattle.sim_deck.proofs.NoFaults.{no_closing}
 use Rattle.sim_deck.specs.Faults.{closing_kind, count_in, counts_in, fault_among, first_fault, form_kind, is_absent, sound_count}
 use Rattle.deck_shape.specs.Lists.{has_other_length, names_repeat}
 use Rattle.sim_deck.specs.Lists.{is_bad_name, Counts, count_of, has_members}
@@ -37,29 +42,29 @@ use Rattle.sim_deck.specs.declared.forms.TheConstants.{DENTATES, ENERGY, FORMS, 
 
 -- the numbers of species
 
-least_of_two : (t : Bool) (n : ℕ) → (t ≡ true → n ≤ 64) → (if t then n else 0) ≤ 64
+least_of_two : (t : Bool) (n : ℕ) → (t ≡ true → n ≤ MAX_SPECIES) → (if t then n else 0) ≤ MAX_SPECIES
 least_of_two true n few = few refl
 least_of_two false n few = omega arith
 
-at_most : (n : ℕ) → is_whole_within 0 64 n ≡ true → n ≤ 64
+at_most : (n : ℕ) → is_whole_within 0 MAX_SPECIES n ≡ true → n ≤ MAX_SPECIES
 at_most n within = grind (arith, nat_tests)
 
-few_species : (r : Result ℕ NotWhole) → whole_value 0 64 0 r ≤ 64
+few_species : (r : Result ℕ NotWhole) → whole_value 0 MAX_SPECIES 0 r ≤ MAX_SPECIES
 few_species (Err e) = omega arith
-few_species (Ok n) = least_of_two (is_whole_within 0 64 n) n (at_most n)
+few_species (Ok n) = least_of_two (is_whole_within 0 MAX_SPECIES n) n (at_most n)
 
 pub if_none : {X : Type 0} (k : Option ℕ) (a b : X) → k ≡ None → (if is_none k then a else b) ≡ a
 if_none None a b e = refl
 if_none (Some k) a b e = absurd cc
 
 abbrev IsStated : Option ℕ → Type 0
-IsStated count = (n : ℕ) × (count ≡ Some n) × (n ≤ 64)
+IsStated count = (n : ℕ) × (count ≡ Some n) × (n ≤ MAX_SPECIES)
 
 sound_words : (words : List (List ℕ)) → numbers_fault SPECIES_COUNT words ≡ None → IsStated (sound_count words)
 sound_words [] e = (0, refl, omega arith)
 sound_words (word ∷ words) e = (
-  whole_value 0 64 0 (whole_number word),
-  if_none (numbers_fault SPECIES_COUNT (word ∷ words)) (Some (whole_value 0 64 0 (whole_number word))) None e,
+  whole_value 0 MAX_SPECIES 0 (whole_number word),
+  if_none (numbers_fault SPECIES_COUNT (word ∷ words)) (Some (whole_value 0 MAX_SPECIES 0 (whole_number word))) None e,
   few_species (whole_number word),
 )
 
@@ -103,7 +108,7 @@ long_names : (counts : Counts) (count : Count) (n : ℕ) → count_of counts cou
     → IsKindless counts (Names count) item → IsLong n item
 long_names counts count n stated item none =
     ap (λ c. has_other_length c (length (words_of item))) (sym stated)
-    ∙ holds_not (has_other_length (count_of counts count) (length (words_of item))) LIST_LENGTH (neither _ _ none).0
+    ∙ holds_not (has_other_length (count_of counts count) (length (words_of item))) LIST_LENGTH (neither _ _ (neither _ _ none).0).0
 
 long_numbers : (counts : Counts) (number : Sort) (count : Count) (n : ℕ) → count_of counts count ≡ Some n
     → (item : ItemLines) → IsKindless counts (Numbers number count) item → IsLong n item
@@ -115,8 +120,11 @@ differ_in : (counts : Counts) (count : Count) (r : Option ItemLines) → IfSome 
     → (names_repeat (list_of r) ≡ false) × (list_any is_bad_name (list_of r) ≡ false)
 differ_in counts count None none = (refl, refl)
 differ_in counts count (Some item) none =
-    let both = neither _ _ (neither _ _ none).1 in
-    (holds_not (names_repeat (words_of item)) REPEATED_NAME both.0, holds_not (list_any is_bad_name (words_of item)) BAD_NAME both.1)
+    let both = neither _ _ none in
+    (
+      holds_not (names_repeat (words_of item)) REPEATED_NAME (neither _ _ both.0).1,
+      holds_not (list_any is_bad_name (words_of item)) BAD_NAME both.1,
+    )
 
 -- the names are the words of their list
 pub names_bytes : (r : Option ItemLines) → map (λ name. name.word.bytes) (option_map_or names_on r []) ≡ list_of r
@@ -126,13 +134,13 @@ names_bytes (Some item) = map-map (λ name. name.word.bytes) (on_line item.line.
 names_count : (r : Option ItemLines) → length (option_map_or names_on r []) ≡ length (list_of r)
 names_count r = sym (length-map (option_map_or names_on r []) (λ name. name.word.bytes)) ∙ ap length (names_bytes r)
 
-named : (r : Option ItemLines) (n : ℕ) → length (list_of r) ≡ n → n ≤ 64
+named : (r : Option ItemLines) (n : ℕ) → length (list_of r) ≡ n → n ≤ MAX_SPECIES
     → (names_repeat (list_of r) ≡ false) × (list_any is_bad_name (list_of r) ≡ false)
     → AreNames (map (λ name. name.word.bytes) (option_map_or names_on r []))
 named r n count few differ = record {
   differ = ap names_repeat (names_bytes r) ∙ differ.0;
   no_sign = ap (list_any is_bad_name) (names_bytes r) ∙ differ.1;
-  few = subst (λ names. length names ≤ 64) (sym (names_bytes r)) (omega arith);
+  few = subst (λ names. length names ≤ MAX_SPECIES) (sym (names_bytes r)) (omega arith);
 }
 
 one_each : {Y : Type 0} (f : List ℕ → Y) (list names : Option ItemLines) (n : ℕ) → length (list_of list) ≡ n → length (list_of names) ≡ n
@@ -160,11 +168,11 @@ record AreThere (counts : Counts) (items : List ItemLines) : Type 0 where
 are_there : (counts : Counts) (items : List ItemLines) → closing_kind counts items ≡ None → AreThere counts items
 are_there counts items none =
     let all = holds_not _ LIST_LENGTH none in
-    let a = neither_holds _ _ all in
-    let b = neither_holds _ _ a.1 in
-    let c = neither_holds _ _ b.1 in
-    let d = neither_holds _ _ c.1 in
-    let e = neither_holds _ _ d.1 in
+    let a = or_parts _ _ all in
+    let b = or_parts _ _ a.1 in
+    let c = or_parts _ _ b.1 in
+    let d = or_parts _ _ c.1 in
+    let e = or_parts _ _ d.1 in
     record { gas_names = a.0; energies = b.0; fractions = c.0; surface_names = d.0; dentates = e.0 }
 
 -- a list of this form has the stated length
@@ -180,11 +188,11 @@ counted counts items closing keyword form count n known none stated there long =
     (present_at items keyword n (ap (λ c. has_members c && not (stands keyword items)) (sym stated) ∙ there))
 
 lists_of : (items : List ItemLines) (line : ℕ)
-    → fault_among (counts_in items) items (line_kind line (closing_kind (counts_in items) items)) ≡ None → AreLists items (values_of items)
+    → fault_among (counts_in items) items (line_fault line (closing_kind (counts_in items) items)) ≡ None → AreLists items (values_of items)
 lists_of items line none =
     let counts = counts_in items in
-    let closing = line_kind line (closing_kind counts items) in
-    let there = are_there counts items (none_mapped (closing_kind counts items) line (no_closing counts items closing none)) in
+    let closing = line_fault line (closing_kind counts items) in
+    let there = are_there counts items (no_line line (closing_kind counts items) (no_closing counts items closing none)) in
     let gas : IsStated (count_of counts Gas) =
     sound_item (find (has_keyword NGasSpecies) items) (no_fault_behind counts items closing NGasSpecies (NumberForm SPECIES_COUNT) refl none) in
     let surface : IsStated (count_of counts Surface) =

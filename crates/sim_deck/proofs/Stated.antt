@@ -1,5 +1,5 @@
 -- what a file without faults states is the value
-use Rattle.std.proofs.Common.{◌≡◌, ◌∙◌, ap, subst, sym, ℕ, pos, negsuc, false, List, [], ◌∷◌, length, arith, map, Option, None, Some}
+use Rattle.std.proofs.Common.{◌≡◌, ◌∙◌, ap, subst, sym, ℕ, pos, neg_ℤ, false, List, [], ◌∷◌, length, arith, map, Option, None, Some}
 use Rattle.std.proofs.Common.{IfSome, MatchOption, refl, unsigned_abs, unwrap_or}
 use Rattle.std.specs.List.{AllByRecursion, find, list_any}
 use Rattle.std.specs.Option.{option_map, option_map_or}
@@ -21,7 +21,9 @@ use Rattle.deck_shape.specs.declared.keyword.Keyword.TheVariants.{Snapshots, Spe
 use Rattle.deck_shape.specs.declared.number.NumberForm.{NumberForm as Sort}
 use Rattle.deck_shape.specs.declared.table.BlockForm.TheVariants.{Simulation}
 use Rattle.sim_deck.proofs.KeywordLines.{TakesOne, has_required, no_fault_behind, one_behind, there}
-use Rattle.sim_deck.proofs.NoFaults.{line_kind, neither}
+use Rattle.deck_shape.proofs.Least.{neither}
+use Rattle.kmc_base.specs.declared.limits.TheConstants.{MAX_DENTATES, MAX_ENERGY, MAX_EVENTS, MAX_SPECIES}
+use Rattle.deck_shape.specs.FirstFault.{line_fault}
 use Rattle.sim_deck.proofs.SoundLists.{AreLists, if_none, names_bytes, sound_lists}
 use Rattle.sim_deck.proofs.WrittenNumbers.{all_written, events_is, natural_is, scaled_is, time_is, up_to_is, whole_is}
 use Rattle.sim_deck.proofs.WrittenSamplings.{sampling_is}
@@ -34,7 +36,7 @@ use Rattle.sim_deck.specs.declared.forms.Count.TheVariants.{Gas, Surface}
 use Rattle.sim_deck.specs.declared.forms.Form.{Form}
 use Rattle.sim_deck.specs.declared.forms.Form.TheVariants.{NumberForm, NumberOrInfinity, Numbers, Sampling}
 use Rattle.sim_deck.specs.declared.part.Sampling.TheVariants.{Off}
-use Rattle.sim_deck.specs.declared.forms.TheConstants.{ANY_WHOLE, DENTATES, ENERGY, EVENT_LIMIT, FORMS, FRACTION, MAX_EVENTS, PRESSURE}
+use Rattle.sim_deck.specs.declared.forms.TheConstants.{ANY_WHOLE, DENTATES, ENERGY, EVENT_LIMIT, FORMS, FRACTION, PRESSURE}
 use Rattle.sim_deck.specs.declared.forms.TheConstants.{SPECIES_COUNT, TEMPERATURE, TIME_LIMIT}
 
 -- the words of the line that is found, where there is one
@@ -87,7 +89,7 @@ module _ (block : BlockLines) (none : first_fault block ≡ None) (known : AllBy
   kindless keyword form is =
       behind (λ words. form_kind (counts_in block.items) form words ≡ None) (find (has_keyword keyword) block.items)
       (no_fault_behind (counts_in block.items) block.items
-      (line_kind block.end_line (closing_kind (counts_in block.items) block.items)) keyword form is none)
+      (line_fault block.end_line (closing_kind (counts_in block.items) block.items)) keyword form is none)
 
   -- the one word behind it writes the value
   single : {Y : Type 0} (keyword : Keyword) (form : Form) → form_of FORMS (spelling keyword) ≡ Some form → TakesOne keyword
@@ -122,9 +124,9 @@ module _ (block : BlockLines) (none : first_fault block ≡ None) (known : AllBy
       stated_or_none n (words_behind keyword block.items) stated
       (subst (λ m. IfSome (words_behind keyword block.items) (Writes whole_written m)) (ap (λ c. unwrap_or c 0) stated)
       (single keyword (NumberForm SPECIES_COUNT) is one whole_written (λ r. unwrap_or (option_map_or sound_count r (Some 0)) 0)
-      (λ word none. whole_is 0 64 0 word (neither _ _ none).0
+      (λ word none. whole_is 0 MAX_SPECIES 0 word (neither _ _ none).0
       ∙ sym (ap (λ c. Some (unwrap_or c 0))
-      (if_none (numbers_fault SPECIES_COUNT (word ∷ [])) (Some (whole_value 0 64 0 (whole_number word))) None
+      (if_none (numbers_fault SPECIES_COUNT (word ∷ [])) (Some (whole_value 0 MAX_SPECIES 0 (whole_number word))) None
       none)))))
 
   sampled : (keyword : Keyword) → form_of FORMS (spelling keyword) ≡ Some Sampling
@@ -150,11 +152,11 @@ module _ (block : BlockLines) (none : first_fault block ≡ None) (known : AllBy
         (λ r. option_map_or (λ words. up_to_value 9 (decimal_of (first_word words))) r zero) (up_to_is 9));
     gas_count = counted NGasSpecies (length (values_of block.items).gas) refl refl lists.stated_gas;
     gas_names = names_bytes (find (has_keyword GasSpecsNames) block.items);
-    gas_energies = listed GasEnergies ENERGY Gas refl (scaled_written 9) energy_of (scaled_is 9 (negsuc 999999999999) (pos 1000000000000) (pos 0));
+    gas_energies = listed GasEnergies ENERGY Gas refl (scaled_written 9) energy_of (scaled_is 9 (neg_ℤ MAX_ENERGY) MAX_ENERGY (pos 0));
     gas_fractions = listed GasMolarFracs FRACTION Gas refl decimal_written fraction_of (up_to_is 0);
     surface_count = counted NSurfSpecies (length (values_of block.items).surface) refl refl lists.stated_surface;
     surface_names = names_bytes (find (has_keyword SurfSpecsNames) block.items);
-    dentates = listed SurfSpecsDent DENTATES Surface refl whole_written dentates_of (whole_is 1 8 1);
+    dentates = listed SurfSpecsDent DENTATES Surface refl whole_written dentates_of (whole_is 1 MAX_DENTATES 1);
     max_steps =
         let value : Words → ℕ = λ r. option_map_or (λ words. whole_value 0 MAX_EVENTS MAX_EVENTS (whole_number (first_word words))) r MAX_EVENTS in
         or_default value (Writes events_written) (words_behind MaxSteps block.items)

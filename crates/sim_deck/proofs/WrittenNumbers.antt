@@ -17,11 +17,12 @@ use Rattle.deck_shape.specs.declared.kind.TheConstants.{OUT_OF_RANGE}
 use Rattle.deck_shape.specs.declared.number.NumberForm.{NumberForm}
 use Rattle.deck_shape.specs.declared.number.NumberForm.TheVariants.{Whole, Scaled, UpTo}
 use Rattle.sim_deck.proofs.KeywordLines.{same_words}
-use Rattle.sim_deck.proofs.NoFaults.{neither}
+use Rattle.deck_shape.proofs.Least.{neither}
+use Rattle.kmc_base.specs.declared.limits.TheConstants.{END_OF_TIME, MAX_EVENTS}
 use Rattle.sim_deck.specs.Faults.{is_infinity}
 use Rattle.sim_deck.specs.Stated.{decimal_written, events_written, scaled_written, time_written, whole_written}
 use Rattle.sim_deck.specs.Values.{time_limit}
-use Rattle.sim_deck.specs.declared.forms.TheConstants.{EVENT_LIMIT, MAX_EVENTS, MAX_TIME, TIME_LIMIT}
+use Rattle.sim_deck.specs.declared.forms.TheConstants.{EVENT_LIMIT, TIME_LIMIT}
 
 -- a number that passes its test is taken
 taken : {X : Type 0} (within : Bool) (n other : X) (kind : ℕ) → (if within then None else Some kind) ≡ None
@@ -97,9 +98,9 @@ events_is word none = events_of (is_infinity (word ∷ [])) word (same_words (co
 
 time_of : (infinity : Bool) (word : List ℕ) → (if infinity then None else numbers_fault TIME_LIMIT (word ∷ [])) ≡ None
     → (if infinity then Some None else option_map (λ t. Some t) (scaled_written 18 word))
-    ≡ Some (option_map (λ t. pos t) (if infinity then None else Some (unsigned_abs (decimal_value 18 (pos 0) MAX_TIME (pos 0) (decimal_of word)))))
+    ≡ Some (option_map (λ t. pos t) (if infinity then None else Some (unsigned_abs (decimal_value 18 (pos 0) (pos END_OF_TIME) (pos 0) (decimal_of word)))))
 time_of true word none = refl
-time_of false word none = ap (option_map (λ t. Some t)) (natural_is 18 0 0 MAX_TIME word (neither _ _ none).0)
+time_of false word none = ap (option_map (λ t. Some t)) (natural_is 18 0 0 (pos END_OF_TIME) word (neither _ _ none).0)
 
 pub time_is : (word : List ℕ) → (if is_infinity (word ∷ []) then None else numbers_fault TIME_LIMIT (word ∷ [])) ≡ None
     → time_written word ≡ Some (option_map (λ t. pos t) (time_limit (word ∷ [])))

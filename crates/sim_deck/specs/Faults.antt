@@ -13,13 +13,14 @@ use Rattle.deck_shape.specs.declared.keyword.Keyword.{Keyword}
 use Rattle.deck_shape.specs.declared.keyword.Keyword.TheVariants.{NGasSpecies, NSurfSpecies}
 use Rattle.deck_shape.specs.declared.kind.TheConstants.{LIST_LENGTH}
 use Rattle.deck_shape.specs.Lists.{fault_if, has_other_length}
+use Rattle.kmc_base.specs.declared.limits.TheConstants.{MAX_SPECIES}
 use Rattle.sim_deck.specs.Lists.{Counts, count_of, has_members, names_kind}
 use Rattle.deck_shape.specs.Numbers.{lesser, numbers_fault, whole_value}
 use Rattle.sim_deck.specs.Samplings.{sampling_kind}
 use Rattle.sim_deck.specs.declared.forms.Form.{Form}
 use Rattle.sim_deck.specs.declared.forms.Form.TheVariants.{NumberForm, NumberOrInfinity, Numbers, Names, Sampling, Free}
 use Rattle.sim_deck.specs.declared.forms.NeededList.{NeededList}
-use Rattle.sim_deck.specs.declared.forms.TheConstants.{FORMS, MAX_SPECIES, NEEDED_LISTS, SPECIES_COUNT}
+use Rattle.sim_deck.specs.declared.forms.TheConstants.{FORMS, NEEDED_LISTS, SPECIES_COUNT}
 
 -- the words are `infinity` alone
 abbrev pub is_infinity : List (List ℕ) → Bool

@@ -1,9 +1,9 @@
 -- The lists of the simulation file: a member for each species of a kind.
-use Rattle.std.specs.Prelude.{ℕ, ◌||◌, Bool, false, List, length, Option, None, Some, codes, nat_lt}
+use Rattle.std.specs.Prelude.{ℕ, ◌||◌, Bool, false, List, Option, None, Some, codes, nat_lt}
 use Rattle.std.specs.List.{list_any}
-use Rattle.deck_shape.specs.Lists.{fault_if, has_other_length, names_repeat}
+use Rattle.deck_shape.specs.Lists.{fault_if, names_fault}
 use Rattle.deck_shape.specs.Tables.{same_word}
-use Rattle.deck_shape.specs.declared.kind.TheConstants.{BAD_NAME, LIST_LENGTH, REPEATED_NAME}
+use Rattle.deck_shape.specs.declared.kind.TheConstants.{BAD_NAME}
 use Rattle.deck_shape.specs.Numbers.{lesser}
 use Rattle.sim_deck.specs.declared.forms.Count.{Count}
 use Rattle.sim_deck.specs.declared.forms.Count.TheVariants.{Gas, Surface}
@@ -24,9 +24,7 @@ is_bad_name name = same_word name (codes "*") || same_word name (codes "&")
 
 -- the fault of a list of names
 abbrev pub names_kind : Option ℕ → List (List ℕ) → Option ℕ
-names_kind count names =
-    lesser (fault_if (has_other_length count (length names)) LIST_LENGTH)
-    (lesser (fault_if (names_repeat names) REPEATED_NAME) (fault_if (list_any is_bad_name names) BAD_NAME))
+names_kind count names = lesser (names_fault count names) (fault_if (list_any is_bad_name names) BAD_NAME)
 
 -- a list that is absent should have members
 abbrev pub has_members : Option ℕ → Bool

@@ -6,7 +6,7 @@ use Rattle.deck_shape.specs.Tables.{same_word}
 use Rattle.deck_shape.specs.declared.kind.TheConstants.{BAD_CHOICE}
 use Rattle.deck_shape.specs.Numbers.{decimal_value, number_fault, whole_value}
 use Rattle.deck_shape.specs.declared.number.NumberForm.TheVariants.{Whole, Scaled}
-use Rattle.sim_deck.specs.declared.forms.TheConstants.{MAX_EVENTS, MAX_TIME}
+use Rattle.kmc_base.specs.declared.limits.TheConstants.{END_OF_TIME, MAX_EVENTS}
 use Rattle.sim_deck.specs.declared.part.Sampling.{Sampling}
 use Rattle.sim_deck.specs.declared.part.Sampling.TheVariants.{Off, Event, Time}
 
@@ -22,16 +22,16 @@ sampling_kind (a ∷ b ∷ []) = if is_on (codes "event") a b then None else Som
 sampling_kind (a ∷ b ∷ c ∷ []) =
     if is_on (codes "event") a b
     then number_fault (Whole 1 MAX_EVENTS) c
-    else (if is_on (codes "time") a b then number_fault (Scaled 18 (pos 1) MAX_TIME) c else Some BAD_CHOICE)
+    else (if is_on (codes "time") a b then number_fault (Scaled 18 (pos 1) (pos END_OF_TIME)) c else Some BAD_CHOICE)
 sampling_kind (a ∷ b ∷ c ∷ d ∷ words) = Some BAD_CHOICE
 
 -- the period N in events
 abbrev pub event_period : List ℕ → ℕ
 event_period word = whole_value 1 MAX_EVENTS 1 (whole_number word)
 
--- the period D in as, which is written in s
+-- the period D in attoseconds, which is written in s
 abbrev pub time_period : List ℕ → ℕ
-time_period word = unsigned_abs (decimal_value 18 (pos 1) MAX_TIME (pos 1) (decimal_of word))
+time_period word = unsigned_abs (decimal_value 18 (pos 1) (pos END_OF_TIME) (pos 1) (decimal_of word))
 
 -- the sampling that words without a fault state
 abbrev pub sampling_of : List (List ℕ) → Sampling

@@ -12,7 +12,7 @@ use Rattle.deck_shape.specs.declared.keyword.Keyword.TheVariants.{GasEnergies, G
 use Rattle.deck_shape.specs.declared.keyword.Keyword.TheVariants.{NGasSpecies, NSurfSpecies, Pressure, ProcessStatistics, RandomSeed}
 use Rattle.deck_shape.specs.declared.keyword.Keyword.TheVariants.{Snapshots, SpeciesNumbers, SurfSpecsDent, SurfSpecsNames, Temperature}
 use Rattle.sim_deck.specs.Values.{SimValues}
-use Rattle.sim_deck.specs.declared.forms.TheConstants.{MAX_EVENTS}
+use Rattle.kmc_base.specs.declared.limits.TheConstants.{MAX_EVENTS}
 use Rattle.sim_deck.specs.declared.part.Sampling.{Sampling}
 use Rattle.sim_deck.specs.declared.part.Sampling.TheVariants.{Off, Event, Time}
 
@@ -32,7 +32,7 @@ scaled_written places word = option_map (λ n. scaled_value n places) (decimal_w
 abbrev pub events_written : List ℕ → Option ℕ
 events_written word = if same_word (codes "infinity") word then Some MAX_EVENTS else whole_written word
 
--- the limit on time in as, which is written in s; `infinity` writes that there is none
+-- the limit on time in attoseconds, which is written in s; `infinity` writes that there is none
 abbrev pub time_written : List ℕ → Option (Option ℤ)
 time_written word = if same_word (codes "infinity") word then Some None else option_map (λ t. Some t) (scaled_written 18 word)
 
@@ -46,7 +46,7 @@ pub record IsOnEvery (what : List ℕ) (WritesPeriod : List ℕ → Type 0) (wor
   pub three : words ≡ codes "on" ∷ what ∷ period ∷ []
   pub written : WritesPeriod period
 
--- the words of a sampling: `off`; `on event`, with the period 1, or `on event N`; `on time D` with D in s, kept in as
+-- the words of a sampling: `off`; `on event`, with the period 1, or `on event N`; `on time D` with D in s, kept in attoseconds
 abbrev pub WritesSampling : Sampling → List (List ℕ) → Type 0
 WritesSampling Off words = words ≡ codes "off" ∷ []
 WritesSampling (Event n) words =

@@ -1,5 +1,5 @@
 -- The values of a simulation file: each is that of the one line that has its keyword, or the default.
-use Rattle.std.specs.Prelude.{ℕ, ℤ, pos, negsuc, List, [], ◌∷◌, map, Option, None, Some, Result, Ok, Err, if◌then◌else◌, unsigned_abs}
+use Rattle.std.specs.Prelude.{ℕ, ℤ, pos, neg_ℤ, List, [], ◌∷◌, map, Option, None, Some, Result, Ok, Err, if◌then◌else◌, unsigned_abs}
 use Rattle.std.specs.Option.{option_map_or}
 use Rattle.dec_text.specs.Decimals.{Scientific, decimal_of}
 use Rattle.dec_text.specs.Wholes.{whole_number}
@@ -13,7 +13,7 @@ use Rattle.deck_shape.specs.declared.keyword.Keyword.TheVariants.{ProcessStatist
 use Rattle.sim_deck.specs.Faults.{first_fault, is_infinity}
 use Rattle.deck_shape.specs.Numbers.{decimal_value, up_to_value, whole_value, zero}
 use Rattle.sim_deck.specs.Samplings.{sampling_of}
-use Rattle.sim_deck.specs.declared.forms.TheConstants.{MAX_EVENTS, MAX_TIME}
+use Rattle.kmc_base.specs.declared.limits.TheConstants.{END_OF_TIME, MAX_DENTATES, MAX_ENERGY, MAX_EVENTS}
 use Rattle.sim_deck.specs.declared.part.Plan.{Plan}
 use Rattle.sim_deck.specs.declared.part.Sampling.{Sampling}
 use Rattle.sim_deck.specs.declared.part.Sampling.TheVariants.{Off}
@@ -66,26 +66,26 @@ pressure_in items = option_map_or (λ words. up_to_value 9 (decimal_of (first_wo
 
 -- an energy in neV, which is written in eV
 abbrev pub energy_of : List ℕ → ℤ
-energy_of word = decimal_value 9 (negsuc 999999999999) (pos 1000000000000) (pos 0) (decimal_of word)
+energy_of word = decimal_value 9 (neg_ℤ MAX_ENERGY) MAX_ENERGY (pos 0) (decimal_of word)
 
 -- a molar fraction, from 0 to 1
 abbrev pub fraction_of : List ℕ → Scientific
 fraction_of word = up_to_value 0 (decimal_of word)
 
--- a number of dentates, from 1 to 8
+-- a number of dentates
 abbrev pub dentates_of : List ℕ → ℕ
-dentates_of word = whole_value 1 8 1 (whole_number word)
+dentates_of word = whole_value 1 MAX_DENTATES 1 (whole_number word)
 
 -- when an output is sampled; never, where nothing is said
 abbrev pub sampling_in : Keyword → List ItemLines → Sampling
 sampling_in keyword items = option_map_or sampling_of (words_behind keyword items) Off
 
--- the greatest time in as, where the words state one
+-- the greatest time in attoseconds, where the words state one
 abbrev pub time_limit : List (List ℕ) → Option ℕ
 time_limit words =
-    if is_infinity words then None else Some (unsigned_abs (decimal_value 18 (pos 0) MAX_TIME (pos 0) (decimal_of (first_word words))))
+    if is_infinity words then None else Some (unsigned_abs (decimal_value 18 (pos 0) (pos END_OF_TIME) (pos 0) (decimal_of (first_word words))))
 
--- the greatest time in as; None where the file states none
+-- the greatest time in attoseconds; None where the file states none
 abbrev pub time_limit_in : List ItemLines → Option ℕ
 time_limit_in items = option_map_or time_limit (words_behind MaxTime items) None
 
@@ -100,7 +100,7 @@ plan_of items = record {
   specnum = sampling_in SpeciesNumbers items;
 }
 
--- all the values: energies in neV, the temperature in mK, the pressure in bar, times in as
+-- all the values: energies in neV, the temperature in mK, the pressure in bar, times in attoseconds
 abbrev pub values_of : List ItemLines → SimValues
 values_of items = record {
   plan = plan_of items;

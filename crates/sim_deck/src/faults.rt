@@ -11,15 +11,16 @@ ghost use Rattle.sim_deck.specs.Faults.{closing_kind, count_in, counts_in, fault
 ghost use Rattle.sim_deck.specs.Views.{counts_at};
 ghost use Rattle.sim_deck.specs.Forms.{IsForm};
 
-use crate::forms::{FORMS, Form, MAX_SPECIES, NEEDED_LISTS, NeededList, SPECIES_COUNT};
+use crate::forms::{FORMS, Form, NEEDED_LISTS, NeededList, SPECIES_COUNT};
 use crate::lists::{Counts, has_members, names_kind};
 use crate::samplings::sampling_kind;
 use dec_text::Span;
 use deck_shape::kind::LIST_LENGTH;
 use deck_shape::{
-    Block, Item, Keyword, NumberForm, fault_if, has_other_length, lesser, numbers_fault, whole_value,
+    Block, Item, Keyword, NumberForm, fault_if, has_other_length, lesser, line_fault, numbers_fault,
+    whole_value,
 };
-use kmc_base::OutOfMemory;
+use kmc_base::{MAX_SPECIES, OutOfMemory};
 use std::alloc::Global;
 
 /// The words are `infinity` alone.
@@ -88,7 +89,7 @@ fn item_kind(
     }
 }
 
-/// A keyword stands in the file.
+/// The file has a keyword.
 fn stands(block: &Block, bytes: &[u8], keyword: Keyword) -> bool
     ensures { result ≡ stands keyword (block_at bytes.now block.now).items }
 {
@@ -126,7 +127,7 @@ fn sound_count(bytes: &[u8], words: &[Span]) -> Option<u64>
         return Some(0);
     };
     match numbers_fault(SPECIES_COUNT, bytes, words) {
-        None => Some(whole_value(0, MAX_SPECIES, 0, word.bytes(bytes))),
+        None => Some(whole_value(0, MAX_SPECIES as u64, 0, word.bytes(bytes))),
         Some(_) => None,
     }
 }
@@ -172,10 +173,7 @@ fn fault_among(
 fn closing_fault(counts: &Counts, block: &Block, bytes: &[u8]) -> Option<(u32, u8)>
     ensures { result ≡ option_map (λ kind. (block.now.end_line, kind)) (closing_kind (counts_at counts.now) (block_at bytes.now block.now).items) }
 {
-    match closing_kind(counts, block, bytes) {
-        Some(kind) => Some((block.end_line, kind)),
-        None => None,
-    }
+    line_fault(block.end_line, closing_kind(counts, block, bytes))
 }
 
 /// The first fault of the values of a simulation file: its line and its kind.

@@ -1,6 +1,7 @@
 //! What the words of the simulation file take as values, as data: the definitions and the reader go by these tables.
 
 use deck_shape::{Keyword, NumberForm, WordForm};
+use kmc_base::{END_OF_TIME, MAX_DENTATES, MAX_ENERGY, MAX_EVENTS, MAX_SPECIES};
 
 /// Which number of species a list has members for.
 #[derive(Clone, Copy, Debug, PartialEq, Eq)]
@@ -37,17 +38,8 @@ pub struct NeededList {
     pub count: Count,
 }
 
-/// The greatest number of events, 2^40 - 1, which is that of `infinity` too.
-pub const MAX_EVENTS: u64 = 1_099_511_627_775;
-
-/// The greatest time in as: 10^30 as are 10^12 s.
-pub const MAX_TIME: i128 = 1_000_000_000_000_000_000_000_000_000_000;
-
-/// The greatest number of gas species, and of surface species.
-pub const MAX_SPECIES: u64 = 64;
-
 /// A number of species.
-pub const SPECIES_COUNT: NumberForm = NumberForm::Whole(0, MAX_SPECIES);
+pub const SPECIES_COUNT: NumberForm = NumberForm::Whole(0, MAX_SPECIES as u64);
 
 /// A temperature in K, kept in mK: from 1 mK to 10,000 K.
 pub const TEMPERATURE: NumberForm = NumberForm::Scaled(3, 1, 10_000_000);
@@ -56,13 +48,13 @@ pub const TEMPERATURE: NumberForm = NumberForm::Scaled(3, 1, 10_000_000);
 pub const PRESSURE: NumberForm = NumberForm::UpTo(9);
 
 /// An energy in eV, kept in neV (10^-9 eV): of a magnitude of at most 1,000 eV.
-pub const ENERGY: NumberForm = NumberForm::Scaled(9, -1_000_000_000_000, 1_000_000_000_000);
+pub const ENERGY: NumberForm = NumberForm::Scaled(9, -MAX_ENERGY, MAX_ENERGY);
 
 /// A molar fraction, from 0 to 1.
 pub const FRACTION: NumberForm = NumberForm::UpTo(0);
 
 /// A number of dentates, from 1 to 8.
-pub const DENTATES: NumberForm = NumberForm::Whole(1, 8);
+pub const DENTATES: NumberForm = NumberForm::Whole(1, MAX_DENTATES as u64);
 
 /// A random seed, or a wall time: any whole number below 2^64.
 pub const ANY_WHOLE: NumberForm = NumberForm::Whole(0, 18_446_744_073_709_551_615);
@@ -70,14 +62,14 @@ pub const ANY_WHOLE: NumberForm = NumberForm::Whole(0, 18_446_744_073_709_551_61
 /// The argument of `max_steps`.
 pub const EVENT_LIMIT: NumberForm = NumberForm::Whole(0, MAX_EVENTS);
 
-/// The argument of `max_time` in s, kept in as (10^-18 s).
-pub const TIME_LIMIT: NumberForm = NumberForm::Scaled(18, 0, MAX_TIME);
+/// The argument of `max_time` in s, kept in attoseconds (10^-18 s).
+pub const TIME_LIMIT: NumberForm = NumberForm::Scaled(18, 0, END_OF_TIME as i128);
 
 /// The period of a sampling in events.
 pub const EVENT_PERIOD: NumberForm = NumberForm::Whole(1, MAX_EVENTS);
 
-/// The period of a sampling in s, kept in as: at least 1 as.
-pub const TIME_PERIOD: NumberForm = NumberForm::Scaled(18, 1, MAX_TIME);
+/// The period of a sampling in s, kept in attoseconds: at least one.
+pub const TIME_PERIOD: NumberForm = NumberForm::Scaled(18, 1, END_OF_TIME as i128);
 
 /// The forms of the words that have a value.
 pub const FORMS: [WordForm<Form>; 19] = [

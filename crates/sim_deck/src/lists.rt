@@ -6,8 +6,8 @@ ghost use Rattle.sim_deck.specs.Views.{counts_at};
 
 use crate::forms::Count;
 use dec_text::Span;
-use deck_shape::kind::{BAD_NAME, LIST_LENGTH, REPEATED_NAME};
-use deck_shape::{fault_if, has_other_length, lesser, names_repeat};
+use deck_shape::kind::BAD_NAME;
+use deck_shape::{fault_if, lesser, names_fault};
 use kmc_base::OutOfMemory;
 use std::alloc::Global;
 
@@ -62,10 +62,6 @@ pub(crate) fn names_kind(
 ) -> Result<Option<u8>, OutOfMemory>
     ensures { IfOk result (λ kind. kind ≡ names_kind count (map (bytes_at bytes.now) names.now)) }
 {
-    if has_other_length(count, names.len()) {
-        return Ok(Some(LIST_LENGTH));
-    }
-    let repeated = fault_if(names_repeat(alloc, bytes, names)?, REPEATED_NAME);
-    let bad = fault_if(any_is_bad(bytes, names), BAD_NAME);
-    Ok(lesser(repeated, bad))
+    let fault = names_fault(alloc, count, bytes, names)?;
+    Ok(lesser(fault, fault_if(any_is_bad(bytes, names), BAD_NAME)))
 }

@@ -49,8 +49,5 @@ pub fn read(alloc: Global, bytes: &[u8], shape: &Shape) -> Result<SimPart, DeckF
     ensures fault { (block : BlockLines) → map (block_at bytes.now) shape.now.blocks ≡ block ∷ []
         → IfErr result (IsFaultOf Simulation (part_of block)) }
 {
-    match shape.blocks.as_slice() {
-        [block] => read_block(alloc, bytes, block),
-        _ => unreachable!(),
-    }
+    read_block(alloc, bytes, shape.block())
 }

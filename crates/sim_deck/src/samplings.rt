@@ -3,11 +3,12 @@ ghost use Rattle.dec_text.specs.Spans.{bytes_at};
 ghost use Rattle.sim_deck.specs.Samplings.{event_period, is_on, sampling_kind, sampling_of, time_period};
 ghost use Rattle.sim_deck.specs.Soundness.{IsPeriod};
 
-use crate::forms::{EVENT_PERIOD, MAX_EVENTS, MAX_TIME, TIME_PERIOD};
+use crate::forms::{EVENT_PERIOD, TIME_PERIOD};
 use crate::part::Sampling;
 use dec_text::Span;
 use deck_shape::kind::BAD_CHOICE;
 use deck_shape::{decimal_value, number_fault, whole_value};
+use kmc_base::{END_OF_TIME, MAX_EVENTS};
 
 /// Two words are `on` and this one.
 fn is_on(bytes: &[u8], what: &[u8], first: Span, second: Span) -> bool
@@ -70,11 +71,11 @@ fn event_period(word: &[u8]) -> u64
     whole_value(1, MAX_EVENTS, 1, word)
 }
 
-/// The period in as that a word states.
+/// The period in attoseconds that a word states.
 fn time_period(word: &[u8]) -> u128
     ensures { result ≡ time_period word.now }
 {
-    decimal_value(18, 1, MAX_TIME, 1, word).unsigned_abs()
+    decimal_value(18, 1, END_OF_TIME as i128, 1, word).unsigned_abs()
 }
 
 /// The sampling that two words without a fault state.

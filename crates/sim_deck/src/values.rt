@@ -1,18 +1,20 @@
-ghost use Rattle.std.specs.Prelude.{◌≡◌, ◌≤◌, ◌^◌, IfOk, IfSome, map, true, unsigned_abs};
+ghost use Rattle.std.specs.Prelude.{◌≡◌, ◌≤◌, IfOk, IfSome, map, true, unsigned_abs};
 ghost use Rattle.std.specs.List.{AllByRecursion};
 ghost use Rattle.dec_text.specs.Spans.{bytes_at};
 ghost use Rattle.deck_shape.specs.Blocks.{block_at};
 ghost use Rattle.deck_shape.specs.Numbers.{is_up_to};
+ghost use Rattle.kmc_base.specs.declared.limits.TheConstants.{END_OF_TIME, MAX_DENTATES, MAX_ENERGY};
 ghost use Rattle.sim_deck.specs.Soundness.{AreInRange, IsPeriod, IsSoundPlan};
 ghost use Rattle.sim_deck.specs.Values.{dentates_of, energy_of, first_word, fraction_of, plan_of, pressure_in, sampling_in, temperature_in, time_limit_in, values_at, values_of, whole_in};
 
 use crate::faults::is_infinity;
-use crate::forms::{MAX_EVENTS, MAX_TIME};
 use crate::part::{Plan, Sampling, SimPart};
 use crate::samplings::sampling_of;
 use dec_text::{Decimal, Span};
 use deck_shape::{Block, Keyword, ZERO, decimal_value, up_to_value, whole_value};
-use kmc_base::{Sequence, OutOfMemory};
+use kmc_base::{
+    END_OF_TIME, MAX_DENTATES, MAX_ENERGY, MAX_EVENTS, OutOfMemory, Sequence,
+};
 use std::alloc::Global;
 
 /// The first word behind a keyword; an empty one where there is none.
@@ -68,7 +70,7 @@ fn pressure_in(block: &Block, bytes: &[u8]) -> Decimal
 /// The energies of a list, in neV.
 fn energies(alloc: Global, bytes: &[u8], words: &[Span]) -> Result<Vec<i64>, OutOfMemory>
     ensures value { IfOk result (λ all. all.items ≡ map energy_of (map (bytes_at bytes.now) words.now)) }
-    ensures range { IfOk result (λ all. AllByRecursion (λ e. unsigned_abs e ≤ 10 ^ 12) all.items) }
+    ensures range { IfOk result (λ all. AllByRecursion (λ e. unsigned_abs e ≤ unsigned_abs MAX_ENERGY) all.items) }
 {
     let mut all = Vec::new(alloc);
     for word in words {
@@ -80,9 +82,9 @@ fn energies(alloc: Global, bytes: &[u8], words: &[Span]) -> Result<Vec<i64>, Out
 /// An energy, in neV.
 fn energy_of(word: &[u8]) -> i64
     ensures value { result ≡ energy_of word.now }
-    ensures range { unsigned_abs result ≤ 10 ^ 12 }
+    ensures range { unsigned_abs result ≤ unsigned_abs MAX_ENERGY }
 {
-    decimal_value(9, -1_000_000_000_000, 1_000_000_000_000, 0, word) as i64
+    decimal_value(9, -MAX_ENERGY, MAX_ENERGY, 0, word) as i64
 }
 
 /// A molar fraction, from 0 to 1.
@@ -108,15 +110,15 @@ fn fractions(alloc: Global, bytes: &[u8], words: &[Span]) -> Result<Vec<Decimal>
 /// A number of dentates.
 fn dentates_of(word: &[u8]) -> u8
     ensures value { result ≡ dentates_of word.now }
-    ensures range { (1 ≤ result) × (result ≤ 8) }
+    ensures range { (1 ≤ result) × (result ≤ MAX_DENTATES) }
 {
-    whole_value(1, 8, 1, word) as u8
+    whole_value(1, MAX_DENTATES as u64, 1, word) as u8
 }
 
 /// The numbers of dentates of a list.
 fn dentates(alloc: Global, bytes: &[u8], words: &[Span]) -> Result<Vec<u8>, OutOfMemory>
     ensures value { IfOk result (λ all. all.items ≡ map dentates_of (map (bytes_at bytes.now) words.now)) }
-    ensures range { IfOk result (λ all. AllByRecursion (λ d. (1 ≤ d) × (d ≤ 8)) all.items) }
+    ensures range { IfOk result (λ all. AllByRecursion (λ d. (1 ≤ d) × (d ≤ MAX_DENTATES)) all.items) }
 {
     let mut all = Vec::new(alloc);
     for word in words {
@@ -136,16 +138,16 @@ fn sampling_in(block: &Block, bytes: &[u8], keyword: Keyword) -> Sampling
     }
 }
 
-/// The greatest time in as, if one is stated.
+/// The greatest time in attoseconds, if one is stated.
 fn time_limit_in(block: &Block, bytes: &[u8]) -> Option<u128>
     ensures value { result ≡ time_limit_in (block_at bytes.now block.now).items }
-    ensures range { IfSome result (λ t. t ≤ 10 ^ 30) }
+    ensures range { IfSome result (λ t. t ≤ END_OF_TIME) }
 {
     let words = block.words_behind(bytes, Keyword::MaxTime)?;
     if is_infinity(bytes, words) {
         return None;
     }
-    let time = decimal_value(18, 0, MAX_TIME, 0, first_word(bytes, words));
+    let time = decimal_value(18, 0, END_OF_TIME as i128, 0, first_word(bytes, words));
     Some(time.unsigned_abs())
 }
 

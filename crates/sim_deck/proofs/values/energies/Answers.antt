@@ -1,13 +1,14 @@
-use Rattle.std.proofs.Common.{◌∙◌, ◌≤◌, ◌^◌, ℤ, unsigned_abs, subst, sym, ap, arith, rules, SFits, w64}
+use Rattle.std.proofs.Common.{◌∙◌, ◌≤◌, ℤ, unsigned_abs, subst, sym, ap, arith, rules, SFits, w64}
 use Rattle.std.proofs.lemmas.Int.{to_z-of_z}
 use Rattle.std.specs.List.{AllByRecursion}
 use Rattle.dec_text.specs.Spans.{bytes_at}
 use Rattle.sim_deck.proofs.Maps.{all-pushed, more_mapped}
+use Rattle.kmc_base.specs.declared.limits.TheConstants.{MAX_ENERGY}
 use Rattle.sim_deck.specs.Values.{energy_of}
 use Rattle.sim_deck.proofs.values.energies.Goals as goal
 
 abbrev IsEnergy : ℤ → Type 0
-IsEnergy e = unsigned_abs e ≤ 10 ^ 12
+IsEnergy e = unsigned_abs e ≤ unsigned_abs MAX_ENERGY
 
 pub loop-word-preserved : goal.loop-word-preserved
 loop-word-preserved c =
