@@ -5,6 +5,7 @@ use Rattle.std.specs.List.{AllByRecursion}
 use Rattle.kmc_base.proofs.EntryLists.{entry_at-behind}
 use Rattle.kmc_base.specs.Entries.{IsRising, codes_of, entry_at, chosen, kept_or}
 use Rattle.kmc_base.specs.declared.entry.Entry.{Entry}
+use Rattle.kmc_base.specs.declared.entry.Firing.{Firing}
 use Rattle.kmc_core.proofs.ByCode.{all-by_code, by_code-append}
 use Rattle.kmc_core.specs.Instances.{by_code}
 use Rattle.kmc_core.specs.Trajectory.{fresh, renewed}
@@ -30,9 +31,9 @@ found_later old rest next first (o ∷ offers) above same found =
     (same o.0 (omega (arith, above.0)) ∙ found.0, found_later old rest next first offers above.1 same found.1)
 
 -- one more entry, and those of the instances after it
-pub renewed_more : (seed event : ℕ) (old : List Entry) (first : ℕ × ℕ) (done now all : List Entry) (e : Entry)
+pub renewed_more : (seed event : ℕ) (old : List Entry) (first : Firing) (done now all : List Entry) (e : Entry)
     (o : ℕ × Option ℤ) (offers : List (ℕ × Option ℤ)) →
-    now ≡ done ++ e ∷ [] → e ≡ chosen old (Some first.1) (fresh seed event first.0 o) →
+    now ≡ done ++ e ∷ [] → e ≡ chosen old (Some first.code) (fresh seed event first.time o) →
     done ++ renewed seed event old first (o ∷ offers) ≡ all → now ++ renewed seed event old first offers ≡ all
 renewed_more seed event old first done now all e o offers more is whole =
     ap (λ es. es ++ renewed seed event old first offers) more
@@ -40,16 +41,16 @@ renewed_more seed event old first done now all e o offers more is whole =
     ∙ (ap (λ x. done ++ (x ∷ renewed seed event old first offers)) is ∙ whole))
 
 -- old entries that have the same from a code on give instances of such codes the same entries
-pub renewed-alike : (seed event : ℕ) (rest old : List Entry) (first : ℕ × ℕ) (from : ℕ)
+pub renewed-alike : (seed event : ℕ) (rest old : List Entry) (first : Firing) (from : ℕ)
     → ((c : ℕ) → from ≤ c → entry_at c rest ≡ entry_at c old) → (offers : List (ℕ × Option ℤ)) →
     AllByRecursion (λ (o : ℕ × Option ℤ). from ≤ o.0) offers → renewed seed event rest first offers ≡ renewed seed event old first offers
 renewed-alike seed event rest old first from same [] above = refl
 renewed-alike seed event rest old first from same (o ∷ offers) above =
-    ap (λ e. kept_or (Some first.1) e (fresh seed event first.0 o) ∷ renewed seed event rest first offers) (same o.0 above.0)
-    ∙ ap (λ es. chosen old (Some first.1) (fresh seed event first.0 o) ∷ es) (renewed-alike seed event rest old first from same offers above.1)
+    ap (λ e. kept_or (Some first.code) e (fresh seed event first.time o) ∷ renewed seed event rest first offers) (same o.0 above.0)
+    ∙ ap (λ es. chosen old (Some first.code) (fresh seed event first.time o) ∷ es) (renewed-alike seed event rest old first from same offers above.1)
 
 -- the entries of a part of the instances, whose codes stand between two numbers, and those of the parts after it
-pub renewed-part : (seed event : ℕ) (old rest : List Entry) (first : ℕ × ℕ) (from to : ℕ) (done now all : List Entry)
+pub renewed-part : (seed event : ℕ) (old rest : List Entry) (first : Firing) (from to : ℕ) (done now all : List Entry)
     (here later : List (ℕ × Option ℤ)) →
     ((c : ℕ) → from ≤ c → entry_at c rest ≡ entry_at c old) →
     AllByRecursion (λ (o : ℕ × Option ℤ). from ≤ o.0) here → AllByRecursion (λ (o : ℕ × Option ℤ). o.0 < to) here
@@ -64,7 +65,7 @@ renewed-part seed event old rest first from to done now all here later same abov
     ∙ append_assoc done (renewed seed event old first (by_code here)) (renewed seed event old first (by_code later))
     ∙ ap (λ es. done ++ es)
     (sym (ap (renewed seed event old first) (by_code-append to here later below after)
-    ∙ map-append (λ (o : ℕ × Option ℤ). chosen old (Some first.1) (fresh seed event first.0 o)) (by_code here)
+    ∙ map-append (λ (o : ℕ × Option ℤ). chosen old (Some first.code) (fresh seed event first.time o)) (by_code here)
     (by_code later)))
     ∙ whole
 
@@ -76,7 +77,7 @@ added-alike event other done now rest offers others same are more =
     ∙ ap (λ os. done ++ renewed other.draws other.event rest other.first os) are
 
 -- where no part is left
-pub none-left : (seed event : ℕ) (old : List Entry) (first : ℕ × ℕ) (done all : List Entry)
+pub none-left : (seed event : ℕ) (old : List Entry) (first : Firing) (done all : List Entry)
     (left : List (ℕ × Option ℤ)) → left ≡ [] → done ++ renewed seed event old first (by_code left) ≡ all → done ≡ all
 unfolding by_code
 none-left seed event old first done all left none whole =

@@ -2,6 +2,7 @@
 use Rattle.std.specs.Prelude.{◌≡◌, ℕ, ◌-◌, ◌≤◌, List, Option, Some, option_and_then, IfSome}
 use Rattle.kmc_base.specs.Entries.{least}
 use Rattle.kmc_base.specs.declared.entry.Entry.{Entry}
+use Rattle.kmc_base.specs.declared.entry.Firing.{Firing}
 use Rattle.kmc_core.specs.Deck.{IsSound, dentates_in}
 use Rattle.kmc_core.specs.PlainSystem.{system_of, trajectory_of}
 use Rattle.kmc_core.specs.Stops.{stop_at}
@@ -36,7 +37,7 @@ pub record IsClosedAt (deck : PlainDeck) (event : ℕ) (snapshot : Snapshot (Lis
 
 -- At an event that has fired, `first` is what came first before it, and the states are those after it. The entries are
 -- still the old ones; those after the event are there, or not yet.
-pub record IsOpenAt (deck : PlainDeck) (event : ℕ) (first : ℕ × ℕ) (states : List State) (entries : List Entry)
+pub record IsOpenAt (deck : PlainDeck) (event : ℕ) (first : Firing) (states : List State) (entries : List Entry)
     (after : Option (List Entry)) : Type 0 where
   pub old : Snapshot (List State)
   pub closed : IsClosedAt deck (event - 1) old
@@ -44,6 +45,6 @@ pub record IsOpenAt (deck : PlainDeck) (event : ℕ) (first : ℕ × ℕ) (state
   pub allowed : event ≤ deck.plan.max_steps
   pub old_entries : old.entries ≡ entries
   pub came_first : least entries ≡ Some first
-  pub fired_states : states ≡ (system_of deck).fires old.state first.1
+  pub fired_states : states ≡ (system_of deck).fires old.state first.code
   pub well_formed : IsWellFormed (dentates_in deck.book) states
   pub renewed_entries : IfSome after (λ es. es ≡ renewed deck.plan.seed event entries first ((system_of deck).offers states))

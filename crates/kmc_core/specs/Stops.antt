@@ -1,5 +1,6 @@
 -- When a run stops.
 use Rattle.std.specs.Prelude.{ℕ, ◌+◌, ◌/◌, ◌^◌, ◌==◌, ◌||◌, Bool, Option, None, Some, if◌then◌else◌, nat_le, nat_lt, unwrap_or}
+use Rattle.kmc_base.specs.declared.entry.Firing.{Firing}
 use Rattle.kmc_core.specs.declared.stop.Stop.{Stop}
 use Rattle.kmc_core.specs.declared.stop.Stop.TheVariants.{Samples, Steps, Still, Horizon}
 use Rattle.sim_deck.specs.declared.part.Plan.{Plan}
@@ -26,13 +27,13 @@ abbrev pub end_of_time : Plan → ℕ
 end_of_time plan = unwrap_or plan.max_time (10 ^ 30)
 
 -- why the run goes no further: no instance has a time, or the first one comes after the greatest time
-abbrev pub stop_before : Plan → Option (ℕ × ℕ) → Option Stop
+abbrev pub stop_before : Plan → Option Firing → Option Stop
 stop_before plan None = Some Still
-stop_before plan (Some first) = if nat_lt (end_of_time plan) first.0 then Some Horizon else None
+stop_before plan (Some first) = if nat_lt (end_of_time plan) first.time then Some Horizon else None
 
--- Whether and why a run stops after an event, by the event's time and by the (time, code) of what fires next: the first
+-- Whether and why a run stops after an event, by the event's time and by the firing that comes next: the first
 -- that holds of the four reasons.
-abbrev pub stop_at : Plan → ℕ → ℕ → Option (ℕ × ℕ) → Option Stop
+abbrev pub stop_at : Plan → ℕ → ℕ → Option Firing → Option Stop
 stop_at plan event time first =
     if some_output_is_full plan event time
     then Some Samples

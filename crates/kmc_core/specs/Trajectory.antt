@@ -6,6 +6,7 @@ use Rattle.std.specs.Option.{option_map}
 use Rattle.fixed_math.specs.WaitingTime.{time_of}
 use Rattle.kmc_base.specs.Entries.{chosen, least}
 use Rattle.kmc_base.specs.declared.entry.Entry.{Entry}
+use Rattle.kmc_base.specs.declared.entry.Firing.{Firing}
 use Rattle.named_draws.specs.Draw.{draw}
 
 -- A system of events: the instances that a state offers, each by its code and the base-2 logarithm of its rate in 1/s,
@@ -37,19 +38,19 @@ start system seed state = record { state = state; time = 0; entries = map (fresh
 
 -- The entries after an event has fired a code at a time, for the instances that the whole new state offers: one
 -- that was there with the same rate, and was not the one fired, keeps its entry; every other one is fresh.
-abbrev pub renewed : ℕ → ℕ → List Entry → ℕ × ℕ → List (ℕ × Option ℤ) → List Entry
-renewed seed event old first offers = map (λ offer. chosen old (Some first.1) (fresh seed event first.0 offer)) offers
+abbrev pub renewed : ℕ → ℕ → List Entry → Firing → List (ℕ × Option ℤ) → List Entry
+renewed seed event old first offers = map (λ offer. chosen old (Some first.code) (fresh seed event first.time offer)) offers
 
 -- the trajectory after an event that fires at a time the instance of a code
-abbrev pub fired : {S : Type 0} → System S → ℕ → ℕ → Snapshot S → ℕ × ℕ → Snapshot S
+abbrev pub fired : {S : Type 0} → System S → ℕ → ℕ → Snapshot S → Firing → Snapshot S
 fired system seed event old first = record {
-  state = system.fires old.state first.1;
-  time = first.0;
-  entries = renewed seed event old.entries first (system.offers (system.fires old.state first.1));
+  state = system.fires old.state first.code;
+  time = first.time;
+  entries = renewed seed event old.entries first (system.offers (system.fires old.state first.code));
 }
 
 -- The trajectory at each event. There is a next one where some entry has a time, and what fires is the entry
--- that is least by (time, code).
+-- that comes first.
 abbrev pub trajectory : {S : Type 0} → System S → ℕ → S → ℕ → Option (Snapshot S)
 trajectory system seed state zero = Some (start system seed state)
 trajectory system seed state (suc n) =

@@ -1,4 +1,5 @@
 ghost use Rattle.std.specs.Prelude.{◌≡◌, ◌==◌, ℕ, ◌^◌, ◌≤◌, ◌<◌, IfOk, IfErr, IsSomeAnd, count_by};
+ghost use Rattle.std.specs.Option.{option_map};
 ghost use Rattle.kmc_base.specs.Entries.{least as least_of};
 ghost use Rattle.kmc_core.specs.Deck.{IsSound, dentates_in};
 ghost use Rattle.kmc_core.specs.PlainSystem.{is_home_of, opening as opening_of, system_of, trajectory_of};
@@ -11,7 +12,7 @@ use crate::entry_lists::EntryLists;
 use crate::fired::Fired;
 use crate::stop::{Stop, stop_at};
 use crate::unclosed::Unclosed;
-use kmc_base::{OutOfMemory, SpeciesId};
+use kmc_base::{Firing, OutOfMemory, SpeciesId};
 use lattice_core::{Config, Steps};
 use std::alloc::Global;
 use std::marker::{Brand, Model};
@@ -50,7 +51,7 @@ fn opening(alloc: Global, deck: &PlainDeck) -> Result<(Config, EntryLists), OutO
 {
     let config = Config::vacant(alloc, deck.graph.len())?;
     let mut lists = EntryLists::none(alloc);
-    lists.renew(alloc, deck, &config, (0, 0), 0)?;
+    lists.renew(alloc, deck, &config, Firing { time: 0, code: 0 }, 0)?;
     Ok((config, lists.advanced()))
 }
 
@@ -112,12 +113,13 @@ impl Closed {
         self.time
     }
 
-    /// The time in as and the code of the instance that fires next, the least by (time, code). `None`
-    /// where no instance has a time.
+    /// The firing that comes first: its time in attoseconds, and the code of its instance. `None` if no
+    /// instance has a time.
     pub fn least(&self) -> Option<(u128, u128)>
-        ensures { IsSomeAnd (trajectory_of self.now.deck self.now.event) (λ s. result ≡ least_of s.entries) }
+        ensures { IsSomeAnd (trajectory_of self.now.deck self.now.event) (λ s. result ≡ option_map (λ first. (first.time, first.code)) (least_of s.entries)) }
     {
-        self.lists.current.least()
+        let first = self.lists.current.least()?;
+        Some((first.time, first.code))
     }
 
     /// The number of adsorbates of a species.
@@ -128,12 +130,12 @@ impl Closed {
     }
 
     /// What fires next, or why nothing does.
-    fn next_firing(&self) -> Result<(u128, u128), Stop>
+    fn next_firing(&self) -> Result<Firing, Stop>
         ensures goes_on { IfOk result (λ first. (stop_of self.now.deck self.now.event ≡ None) × (self.now.event < self.now.deck.plan.max_steps)) }
         ensures first { IfOk result (λ first. IsSomeAnd (trajectory_of self.now.deck self.now.event) (λ s. least_of s.entries ≡ Some first)) }
         ensures stops { IfErr result (λ stop. stop_of self.now.deck self.now.event ≡ Some stop) }
     {
-        let least = self.least();
+        let least = self.lists.current.least();
         match (
             stop_at(&self.deck.plan, self.event, self.time, least),
             least,

@@ -1,15 +1,15 @@
 ghost use Rattle.std.specs.Prelude.{◌≡◌, ◌++◌, ◌∷◌, [], OnOk, OnErr};
-ghost use Rattle.kmc_base.specs.Entries.{least as least_of, moment_of, first_of_two};
+ghost use Rattle.kmc_base.specs.Entries.{least as least_of, firing_of, first_of_two};
 
-use kmc_base::{Entry, OutOfMemory, When};
+use kmc_base::{Entry, Firing, OutOfMemory, When};
 use std::alloc::Global;
 use std::marker::Model;
 
-/// Entries, of which the least by (time, code) is known. A contract sees them as their list.
+/// Entries, of which the firing that comes first is known. A contract sees them as their list.
 #[derive(Debug, Drop)]
 pub(crate) struct Entries {
     items: Vec<Entry>,
-    least: Option<(u128, u128)>,
+    least: Option<Firing>,
 }
 
 impl Model for Entries {
@@ -24,18 +24,21 @@ impl Model for Entries {
     ghost invariant = { λ e. e.least ≡ least_of e.items.items };
 }
 
-/// The (time, code) of an entry that has a time.
-fn moment(entry: &Entry) -> Option<(u128, u128)>
-    ensures { result ≡ moment_of entry.now }
+/// The firing of an entry that has a time.
+fn firing(entry: &Entry) -> Option<Firing>
+    ensures { result ≡ firing_of entry.now }
 {
     match entry.when {
-        When::At(time) => Some((time, entry.code)),
+        When::At(time) => Some(Firing {
+            time,
+            code: entry.code,
+        }),
         When::Never => None,
     }
 }
 
-/// The one of two that comes first by (time, code), if there is one.
-fn first(a: Option<(u128, u128)>, b: Option<(u128, u128)>) -> Option<(u128, u128)>
+/// The one of two that comes first, if there is one.
+fn first(a: Option<Firing>, b: Option<Firing>) -> Option<Firing>
     ensures { result ≡ first_of_two a b }
 {
     match (a, b) {
@@ -77,7 +80,7 @@ impl Entries {
         ensures err { OnErr result (self.new ≡ self.old) }
     {
         self.items.push(entry)?;
-        self.least = first(self.least, moment(&entry));
+        self.least = first(self.least, firing(&entry));
         Ok(())
     }
 
@@ -88,8 +91,8 @@ impl Entries {
         self.items.as_slice()
     }
 
-    /// The least (time, code) of the entries that have a time.
-    pub(crate) fn least(&self) -> Option<(u128, u128)>
+    /// The firing that comes first among the entries that have a time.
+    pub(crate) fn least(&self) -> Option<Firing>
         ensures { result ≡ least_of self.now }
     {
         self.least

@@ -9,7 +9,7 @@ use crate::deck::PlainDeck;
 use crate::entries::Entries;
 use crate::listing::AnchorList;
 use crate::renewal::Renewal;
-use kmc_base::OutOfMemory;
+use kmc_base::{Firing, OutOfMemory};
 use lattice_core::Config;
 use std::alloc::Global;
 use std::marker::Brand;
@@ -44,12 +44,12 @@ impl EntryLists {
         alloc: Global,
         deck: &PlainDeck,
         config: &Config,
-        first: (u128, u128),
+        first: Firing,
         event: u64,
     ) -> Result<(), OutOfMemory>
         requires deck { IsSound deck.now }
         requires configuration { length config.now ≡ site_count deck.now.graph }
-        requires time { first.0 ≤ 10 ^ 30 }
+        requires time { first.time ≤ 10 ^ 30 }
         requires current { IsRising (codes_of self.old.current) }
         ensures current { self.new.current ≡ self.old.current }
         ensures next { OnOk result (self.new.next

@@ -13,7 +13,7 @@ use crate::deck::PlainDeck;
 use crate::entries::Entries;
 use crate::listing::{AnchorList, ListedProcess, Offer};
 use fixed_math::wait;
-use kmc_base::{Entry, OutOfMemory, SiteId};
+use kmc_base::{Entry, Firing, OutOfMemory, SiteId};
 use lattice_core::{Config, Steps};
 use named_draws::Draws;
 use std::alloc::Global;
@@ -41,17 +41,17 @@ fn fresh_entry(draws: &mut Draws, event: u64, time: u128, offer: Offer) -> Entry
 /// it was not the one fired, or a fresh one.
 fn renewed_entry(
     old: Option<&Entry>,
-    first: (u128, u128),
+    first: Firing,
     draws: &mut Draws,
     event: u64,
     offer: Offer,
 ) -> Entry
     requires offer { IsOffer offer }
-    requires time { first.0 ≤ 10 ^ 30 }
-    ensures value { result ≡ kept_or (Some first.1) (option_copied old.entry) (fresh draws.old event first.0 offer) }
+    requires time { first.time ≤ 10 ^ 30 }
+    ensures value { result ≡ kept_or (Some first.code) (option_copied old.entry) (fresh draws.old event first.time offer) }
     ensures seed { draws.new ≡ draws.old }
 {
-    let (time, fired) = first;
+    let Firing { time, code: fired } = first;
     match old {
         Some(entry) if entry.lg == offer.1 && offer.0 != fired => *entry,
         _ => fresh_entry(draws, event, time, offer),
@@ -94,13 +94,13 @@ fn entry_of(entries: &[Entry], code: u128) -> Option<&Entry>
 pub(crate) struct Renewal {
     event: u64,
     // The time of the event in as, and the code that fired.
-    first: (u128, u128),
+    first: Firing,
     draws: Draws,
 }
 
 impl Renewal {
     /// An event of a run with this random seed.
-    pub(crate) fn new(seed: u64, event: u64, first: (u128, u128)) -> Renewal
+    pub(crate) fn new(seed: u64, event: u64, first: Firing) -> Renewal
         ensures { result ≡ record { event = event; first = first; draws = seed } }
     {
         Renewal {
@@ -118,7 +118,7 @@ impl Renewal {
         old: &'a [Entry],
         offers: &[Offer],
     ) -> Result<&'a [Entry], OutOfMemory>
-        requires time { self.old.first.0 ≤ 10 ^ 30 }
+        requires time { self.old.first.time ≤ 10 ^ 30 }
         requires old { IsRising (codes_of old.now) }
         requires rising { IsRising (map (λ offer. offer.0) offers.now) }
         requires offers { AllByRecursion IsOffer offers.now }
@@ -148,7 +148,7 @@ impl Renewal {
         listed: &ListedProcess<'_>,
         steps: &mut Steps<L>,
     ) -> Result<&'a [Entry], OutOfMemory>
-        requires time { self.old.first.0 ≤ 10 ^ 30 }
+        requires time { self.old.first.time ≤ 10 ^ 30 }
         requires old { IsRising (codes_of old.now) }
         requires listed { IsListed listed.now }
         ensures value { OnOk result (entries.new ≡ entries.old ++ renewed self.old.draws self.old.event old.now self.old.first
@@ -179,7 +179,7 @@ impl Renewal {
         requires name { blank.name ≡ L.name }
         requires parts { blank.parts ≡ L.parts }
         requires has_a_part { 0 < L.parts }
-        requires time { self.old.first.0 ≤ 10 ^ 30 }
+        requires time { self.old.first.time ≤ 10 ^ 30 }
         requires old { IsRising (codes_of old.now) }
         requires deck { IsSound deck.now }
         requires configuration { length config.now ≡ site_count deck.now.graph }

@@ -2,6 +2,7 @@ ghost use Rattle.std.specs.Prelude.{◌≡◌, ◌^◌, ◌≤◌};
 ghost use Rattle.kmc_core.specs.Stops.{end_of_time as end_of, is_full as is_full_at, samples_due as due_at, some_output_is_full as some_is_full_at, stop_at as stops_at, stop_before as stops_before};
 ghost use Rattle.sim_deck.specs.Soundness.{IsPeriod, IsSoundPlan};
 
+use kmc_base::Firing;
 use sim_deck::{Plan, Sampling};
 
 /// Why a run has ended: the first of these that holds after its event.
@@ -63,23 +64,23 @@ fn end_of_time(plan: &Plan) -> u128
     plan.max_time.unwrap_or(END_OF_TIME)
 }
 
-/// Why a run stops before what would fire next, the least by (time, code).
-fn stop_before(plan: &Plan, least: Option<(u128, u128)>) -> Option<Stop>
+/// Why a run stops before the firing that comes next.
+fn stop_before(plan: &Plan, least: Option<Firing>) -> Option<Stop>
     ensures { result ≡ stops_before plan.now least }
 {
     match least {
         None => Some(Stop::Still),
-        Some((time, _)) if end_of_time(plan) < time => Some(Stop::Horizon),
+        Some(first) if end_of_time(plan) < first.time => Some(Stop::Horizon),
         Some(_) => None,
     }
 }
 
-/// Whether and why a run stops after an event, by the event's time and by what would fire next.
+/// Whether and why a run stops after an event, by the event's time and by the firing that comes next.
 pub(crate) fn stop_at(
     plan: &Plan,
     event: u64,
     time: u128,
-    least: Option<(u128, u128)>,
+    least: Option<Firing>,
 ) -> Option<Stop>
     requires plan { IsSoundPlan plan.now }
     requires time { time ≤ 10 ^ 30 }

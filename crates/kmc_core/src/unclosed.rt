@@ -10,7 +10,7 @@ use crate::deck::PlainDeck;
 use crate::entry_lists::EntryLists;
 use crate::firing::fire;
 use crate::listing::process_of;
-use kmc_base::OutOfMemory;
+use kmc_base::{Firing, OutOfMemory};
 use lattice_core::Config;
 use pattern_list::decode;
 use std::alloc::Global;
@@ -30,7 +30,7 @@ pub struct Unclosed {
     deck: PlainDeck,
     event: u64,
     // The time of the event and the code that fired.
-    first: (u128, u128),
+    first: Firing,
     config: Config,
     lists: EntryLists,
     // Whether the next entries are those after the event.
@@ -66,7 +66,7 @@ fn fire_code(config: &mut Config, deck: &PlainDeck, code: u128)
 
 impl Unclosed {
     /// The run after an event that fires what comes first.
-    pub(crate) fn after(closed: Closed, first: (u128, u128)) -> Unclosed
+    pub(crate) fn after(closed: Closed, first: Firing) -> Unclosed
         requires goes_on { closed.event < closed.deck.plan.max_steps }
         requires first { IsSomeAnd (trajectory_of closed.deck closed.event) (λ s. least_of s.entries ≡ Some first) }
         ensures { result ≡ record { deck = closed.deck; event = closed.event + 1; undone = 1 } }
@@ -78,7 +78,7 @@ impl Unclosed {
             lists,
             ..
         } = closed;
-        fire_code(&mut config, &deck, first.1);
+        fire_code(&mut config, &deck, first.code);
         Unclosed {
             deck,
             event: event + 1,
@@ -123,7 +123,7 @@ impl Unclosed {
         Ok(Closed {
             deck: self.deck,
             event: self.event,
-            time: self.first.0,
+            time: self.first.time,
             config: self.config,
             lists: self.lists.advanced(),
         })

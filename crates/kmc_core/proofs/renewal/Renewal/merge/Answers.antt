@@ -26,8 +26,8 @@ loop-offer-preserved c =
     let at : option_copied c.entry_of-entry.result ≡ entry_at offer.0 old =
     c.entry_of-entry.ensures ∙ (same offer.0 (omega arith) ∙ found.0) in
     let is = c.renewed_entry-entry.ensures.value
-    ∙ ap (λ (e : Renewal). kept_or (Some e.first.1) (option_copied c.entry_of-entry.result) (fresh e.draws e.event e.first.0 offer)) kept.same
-    ∙ ap (λ e. kept_or (Some event.first.1) e (fresh event.draws event.event event.first.0 offer)) at in
+    ∙ ap (λ (e : Renewal). kept_or (Some e.first.code) (option_copied c.entry_of-entry.result) (fresh e.draws e.event e.first.time offer)) kept.same
+    ∙ ap (λ e. kept_or (Some event.first.code) e (fresh event.draws event.event event.first.time offer)) at in
     let whole = subst (λ (os : List (ℕ × Option ℤ)). c.loop-offer.entries ++ renewed event.draws event.event old
     event.first os ≡ c.args.entries.now ++ renewed event.draws event.event old event.first offers) cut
     kept.done in
