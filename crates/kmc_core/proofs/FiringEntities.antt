@@ -1,4 +1,4 @@
--- What a sound side says of its vertices, and where the sites of an entity stand.
+-- What a sound side says of its vertices, and the places of the sites of an entity.
 use Rattle.std.proofs.Common.{Some, slice_get, ◌≡◌, ◌≢◌, ℕ, ◌+◌, ◌-◌, ◌<◌, ◌≤◌, true, false, List, length, get_or, set, take, All, inl}
 use Rattle.std.proofs.Common.{inr, refl, subst, sym, ◌∙◌, ap, arith}
 use Rattle.std.proofs.lemmas.Bool.{cases_lt, cases_order, cases_eq, eq-eqb, ne_eqb, both_ways}

@@ -2,6 +2,7 @@
 use Rattle.std.proofs.Common.{◌≡◌, ◌≢◌, ℕ, zero, suc, ◌+◌, ◌-◌, ◌<◌, ◌≤◌, Bool, true, false, ◌&&◌, ◌||◌, cond, eqb, List, [], ◌∷◌, length}
 use Rattle.std.proofs.Common.{get_or, take, All, AllPairs, inl, inr, refl, subst, sym, ◌∙◌, ap, arith}
 use Rattle.std.specs.List.{list_any}
+use Rattle.std.proofs.Math.Bool.{and-true, or-false}
 use Rattle.std.proofs.lemmas.Bool.{cases_order, cases_Bool, eq-eqb, eqb-true, both_ways, false≢true, and_parts, or_right}
 use Rattle.std.proofs.lemmas.Bool.{false_from_ne_true, cond-true, cond-false}
 use Rattle.std.proofs.lemmas.List.{get_or_default, get_or-take, length-take-le, take_all}
@@ -42,16 +43,8 @@ first_dentate e (Holds f p d) h =
     let parts = and_parts (eqb f e) (eqb d 1) h in
     (p, ap (λ n. Holds n p d) (eqb-true f e parts.0) ∙ ap (Holds e p) (eqb-true d 1 parts.1))
 
-and_true : (b : Bool) → (b && true) ≡ b
-and_true true = refl
-and_true false = refl
-
-or_false : (b : Bool) → (b || false) ≡ b
-or_false true = refl
-or_false false = refl
-
 is_first : (f e : ℕ) (q : SpeciesId) (w : Wanted) → w ≡ Holds f q 1 → is_first_dentate e w ≡ eqb f e
-is_first f e q w is = ap (is_first_dentate e) is ∙ and_true (eqb f e)
+is_first f e q w is = ap (is_first_dentate e) is ∙ and-true (eqb f e)
 
 -- one of some vertices wants dentate 1 of the entity of which a vertex wants a dentate
 abbrev pub is_begun : List Wanted → Wanted → Bool
@@ -77,7 +70,7 @@ begun_still wanted k within none Vacant = refl
 begun_still wanted k within none (Holds e p d) =
     list_any_more (is_first_dentate e) wanted k Any within
     ∙ ap (λ b. list_any (is_first_dentate e) (take k wanted) || b) (none e)
-    ∙ or_false (list_any (is_first_dentate e) (take k wanted))
+    ∙ or-false (list_any (is_first_dentate e) (take k wanted))
 
 -- the home of an entity
 home_is : (e k : ℕ) (p : SpeciesId) (wanted : List Wanted) (sites : List ℕ) → k < length sites
@@ -264,7 +257,7 @@ module _ (dentates : ℕ → ℕ) (side : PatternParts) (sound : IsSoundSide den
               | inl h ↦ there i low h ∙ sym (cond-true _ _ _ (with w ∙ or_right x (is_of is.entity w) h))
               | inr h ↦ elsewhere (get_or sites i 0) (listed_of dentates side sound sites long different k p own is i low ∙ h)
                   ∙ before.on i low
-                  ∙ ap (λ b. cond b (next i) (state_at old (get_or sites i 0))) (sym (with w ∙ ap (λ b. x || b) h ∙ or_false x))
+                  ∙ ap (λ b. cond b (next i) (state_at old (get_or sites i 0))) (sym (with w ∙ ap (λ b. x || b) h ∙ or-false x))
             ];
         off = λ s none. elsewhere s (unlisted dentates side sound sites long different k p own is s none) ∙ before.off s none;
       }

@@ -1,7 +1,8 @@
 -- A plain deck: processes that each have a pre-exponential factor and an activation energy, of adsorbates that do not
 -- interact. No process consumes or produces gas.
-use Rattle.std.specs.Prelude.{◌≡◌, ℕ, ◌^◌, ◌≤◌, List, length, slice_index_or, unsigned_abs}
+use Rattle.std.specs.Prelude.{◌≡◌, ℕ, ◌≤◌, List, length, slice_index_or, unsigned_abs}
 use Rattle.std.specs.List.{All, AllByRecursion, Contains}
+use Rattle.kmc_base.specs.declared.limits.TheConstants.{MAX_DENTATES, MAX_ENERGY}
 use Rattle.kmc_core.specs.declared.deck.PlainDeck.{PlainDeck}
 use Rattle.kmc_core.specs.declared.deck.PlainProcess.{PlainProcess}
 use Rattle.lattice_core.specs.Lattice.{IsLattice}
@@ -28,13 +29,14 @@ pub record IsSoundSide (dentates : ℕ → ℕ) (side : PatternParts) : Type 0 w
   pub pattern : IsPattern side
   pub whole : All (IsWholeWant dentates side.wanted) side.wanted
 
--- both sides are of the same vertices, edges and types, and the activation energy is at most 10^12 neV, of either sign
+-- both sides are of the same vertices, edges and types, and the activation energy, of either sign, is within the
+-- limit on energies
 pub record IsSoundProcess (dentates : ℕ → ℕ) (process : PlainProcess) : Type 0 where
   pub before : IsSoundSide dentates process.before
   pub after : IsSoundSide dentates process.after
   pub edges : process.after.edges ≡ process.before.edges
   pub types : process.after.types ≡ process.before.types
-  pub activation : unsigned_abs process.activation ≤ 10 ^ 12
+  pub activation : unsigned_abs process.activation ≤ unsigned_abs MAX_ENERGY
 
 -- the numbers of the deck are in their ranges, its sites and their neighbours make a lattice, and its processes are sound
 pub record IsSound (deck : PlainDeck) : Type 0 where
@@ -43,6 +45,6 @@ pub record IsSound (deck : PlainDeck) : Type 0 where
   pub lattice : IsLattice deck.graph
   pub plan : IsSoundPlan deck.plan
   pub gas : deck.gas ≡ length deck.book.gas
-  pub dentates : All (λ d. (1 ≤ d) × (d ≤ 8)) deck.book.dentates
+  pub dentates : All (λ d. (1 ≤ d) × (d ≤ MAX_DENTATES)) deck.book.dentates
   pub few_processes : length deck.processes ≤ 1024
   pub processes : AllByRecursion (IsSoundProcess (dentates_in deck.book)) deck.processes

@@ -1,6 +1,7 @@
--- The entities of a side of a step, where its vertices fall on the sites of a placement.
+-- The entities of a side of a step, where its vertices fall on the sites of a placement. No public contract cites this.
 use Rattle.std.specs.Prelude.{◌≡◌, ℕ, ◌-◌, ◌≤◌, List, length, slice_index, slice_index_or}
 use Rattle.kmc_base.specs.declared.ids.SpeciesId.{SpeciesId}
+use Rattle.kmc_base.specs.declared.limits.TheConstants.{MAX_DENTATES}
 use Rattle.pattern_types.specs.declared.wanted.Wanted.{Wanted}
 use Rattle.pattern_types.specs.declared.wanted.Wanted.TheVariants.{Any, Vacant, Holds}
 
@@ -8,11 +9,11 @@ use Rattle.pattern_types.specs.declared.wanted.Wanted.TheVariants.{Any, Vacant, 
 abbrev pub want_at : List Wanted → ℕ → Wanted
 want_at wanted place = slice_index_or wanted place Any
 
--- the dentate that a vertex wants, if it wants one, is from 1 to 8
+-- the dentate that a vertex wants, if it wants one, is from 1 to the greatest number of dentates
 abbrev pub IsFewDentates : Wanted → Type 0
 IsFewDentates Any = Unit {0}
 IsFewDentates Vacant = Unit {0}
-IsFewDentates (Holds entity species dentate) = (1 ≤ dentate) × (dentate ≤ 8)
+IsFewDentates (Holds entity species dentate) = (1 ≤ dentate) × (dentate ≤ MAX_DENTATES)
 
 -- a list has the site of the vertex that wants a dentate of the entity at the place of the dentate, that of dentate 1 first
 abbrev pub HasSites : List Wanted → List ℕ → ℕ → List ℕ → Type 0

@@ -1,9 +1,9 @@
 pub mod Deck
 pub mod Entities
 pub mod Firing
+pub mod InstanceRange
 pub mod Instances
 pub mod ListedProcess
-pub mod Offers
 pub mod PlainSystem
 pub mod Rate
 pub mod Run

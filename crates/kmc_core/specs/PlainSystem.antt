@@ -43,11 +43,11 @@ system_of deck = record {
 abbrev pub opening : PlainDeck → List State
 opening deck = replicate (site_count deck.graph) Vacant
 
--- the trajectory of the deck, where it comes to an event
+-- the trajectory of the deck, if it comes to an event
 abbrev pub trajectory_of : PlainDeck → ℕ → Option (Snapshot (List State))
 trajectory_of deck event = trajectory (system_of deck) deck.plan.seed (opening deck) event
 
--- dentate 1 of an adsorbate of a species stands on a site: as many sites have it as there are adsorbates of the species
+-- dentate 1 of an adsorbate of a species is on a site: as many sites have it as there are adsorbates of the species
 abbrev pub is_home_of : SpeciesId → State → Bool
 is_home_of species Vacant = false
 is_home_of species (Holds held dentate home) = held.0 == species.0 && dentate == 1

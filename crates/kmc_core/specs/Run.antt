@@ -1,4 +1,4 @@
--- A run of a plain deck: where its trajectory has come to.
+-- A run of a plain deck: how far its trajectory has come.
 use Rattle.std.specs.Prelude.{◌≡◌, ℕ, ◌-◌, ◌≤◌, List, Option, Some, option_and_then, IfSome}
 use Rattle.kmc_base.specs.Entries.{least}
 use Rattle.kmc_base.specs.declared.entry.Entry.{Entry}
@@ -47,4 +47,5 @@ pub record IsOpenAt (deck : PlainDeck) (event : ℕ) (first : Firing) (states : 
   pub came_first : least entries ≡ Some first
   pub fired_states : states ≡ (system_of deck).fires old.state first.code
   pub well_formed : IsWellFormed (dentates_in deck.book) states
-  pub renewed_entries : IfSome after (λ es. es ≡ renewed deck.plan.seed event entries first ((system_of deck).offers states))
+  pub renewed_entries : IfSome after (λ es.
+      es ≡ renewed deck.plan.seed event first.time (Some first.code) entries ((system_of deck).offers states))

@@ -1,7 +1,9 @@
 -- When a run stops.
-use Rattle.std.specs.Prelude.{ℕ, ◌+◌, ◌/◌, ◌^◌, ◌==◌, ◌||◌, Bool, Option, None, Some, if◌then◌else◌, nat_le, nat_lt, unwrap_or}
+use Rattle.std.specs.Prelude.{ℕ, ◌+◌, ◌/◌, ◌==◌, ◌||◌, Bool, Option, None, Some, if◌then◌else◌, nat_le, nat_lt, unwrap_or}
 use Rattle.kmc_base.specs.declared.entry.Firing.{Firing}
+use Rattle.kmc_base.specs.declared.limits.TheConstants.{END_OF_TIME}
 use Rattle.kmc_core.specs.declared.stop.Stop.{Stop}
+use Rattle.kmc_core.specs.declared.stop.TheConstants.{MAX_SAMPLES}
 use Rattle.kmc_core.specs.declared.stop.Stop.TheVariants.{Samples, Steps, Still, Horizon}
 use Rattle.sim_deck.specs.declared.part.Plan.{Plan}
 use Rattle.sim_deck.specs.declared.part.Sampling.{Sampling}
@@ -15,16 +17,16 @@ samples_due (Time period) event time = time / period + 1
 
 -- an output has as many samples as it may have
 abbrev pub is_full : Sampling → ℕ → ℕ → Bool
-is_full sampling event time = nat_le 10000000 (samples_due sampling event time)
+is_full sampling event time = nat_le MAX_SAMPLES (samples_due sampling event time)
 
 -- some output has
 abbrev pub some_output_is_full : Plan → ℕ → ℕ → Bool
 some_output_is_full plan event time =
     is_full plan.history event time || is_full plan.procstat event time || is_full plan.specnum event time
 
--- the greatest time of a run: max_time of the deck, or 10^30 as (10^12 s) where it is infinity
+-- the greatest time of a run: max_time of the deck, or the end of time if it is infinity
 abbrev pub end_of_time : Plan → ℕ
-end_of_time plan = unwrap_or plan.max_time (10 ^ 30)
+end_of_time plan = unwrap_or plan.max_time END_OF_TIME
 
 -- why the run goes no further: no instance has a time, or the first one comes after the greatest time
 abbrev pub stop_before : Plan → Option Firing → Option Stop

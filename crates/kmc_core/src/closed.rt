@@ -1,6 +1,7 @@
-ghost use Rattle.std.specs.Prelude.{◌≡◌, ◌==◌, ℕ, ◌^◌, ◌≤◌, ◌<◌, IfOk, IfErr, IsSomeAnd, count_by};
+ghost use Rattle.std.specs.Prelude.{◌≡◌, ◌==◌, ℕ, ◌≤◌, ◌<◌, IfOk, IfErr, IsSomeAnd, count_by};
 ghost use Rattle.std.specs.Option.{option_map};
 ghost use Rattle.kmc_base.specs.Entries.{least as least_of};
+ghost use Rattle.kmc_base.specs.declared.limits.TheConstants.{END_OF_TIME, MAX_DENTATES};
 ghost use Rattle.kmc_core.specs.Deck.{IsSound, dentates_in};
 ghost use Rattle.kmc_core.specs.PlainSystem.{is_home_of, opening as opening_of, system_of, trajectory_of};
 ghost use Rattle.kmc_core.specs.Run.{stop_of};
@@ -51,7 +52,7 @@ fn opening(alloc: Global, deck: &PlainDeck) -> Result<(Config, EntryLists), OutO
 {
     let config = Config::vacant(alloc, deck.graph.len())?;
     let mut lists = EntryLists::none(alloc);
-    lists.renew(alloc, deck, &config, Firing { time: 0, code: 0 }, 0)?;
+    lists.renew(alloc, deck, &config, 0, 0, None)?;
     Ok((config, lists.advanced()))
 }
 
@@ -67,10 +68,10 @@ fn count_homes<L: Ledger>(config: &Config, species: SpeciesId, blank: Blank) -> 
     requires name { blank.name ≡ L.name }
     requires parts { blank.parts ≡ L.parts }
     requires has_a_part { 0 < L.parts }
-    requires well_formed { (dentates : ℕ → ℕ) × ((s : ℕ) → dentates s ≤ 8) × IsWellFormed dentates config.now }
+    requires well_formed { (dentates : ℕ → ℕ) × ((s : ℕ) → dentates s ≤ MAX_DENTATES) × IsWellFormed dentates config.now }
     ensures { result ≡ count_by (is_home_of species) config.now }
 {
-    // No one looks at this count of reads.
+    // This count of reads is not used.
     let mut steps = Steps::<L>::new(blank);
     let home = u32::from(species.0) * 8 + 1;
     count_class(config.classes(&mut steps), home)
@@ -105,10 +106,10 @@ impl Closed {
         self.event
     }
 
-    /// The time of the event, in as.
+    /// The time of the event, in attoseconds.
     pub fn time(&self) -> u128
         ensures value { IsSomeAnd (trajectory_of self.now.deck self.now.event) (λ s. result ≡ s.time) }
-        ensures range { result ≤ 10 ^ 30 }
+        ensures range { result ≤ END_OF_TIME }
     {
         self.time
     }
@@ -154,7 +155,7 @@ impl Closed {
         &self.deck
     }
 
-    /// Fires the instance that comes first, or ends the run where it stops. It takes no memory.
+    /// Fires the instance that comes first, or ends the run if it stops. It takes no memory.
     pub fn fire(self) -> Fired
         ensures { Fires self result }
     {

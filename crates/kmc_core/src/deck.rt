@@ -10,12 +10,12 @@ use species_book::SpeciesBook;
 pub struct PlainProcess {
     /// What it asks of the sites of an instance.
     pub before: Pattern,
-    /// What stands on them afterwards.
+    /// What is on them afterwards.
     pub after: Pattern,
-    /// The base-2 logarithm of the pre-exponential factor in 1/s, in units of 2^-30, or None where
+    /// The base-2 logarithm of the pre-exponential factor in 1/s, in units of 2^-30, or None if
     /// the factor is 0 and the process never fires.
     pub factor: Option<i64>,
-    /// The activation energy in neV, of a magnitude of at most 10^12. A negative one counts as 0.
+    /// The activation energy in neV, of a magnitude of at most `MAX_ENERGY`. A negative one counts as 0.
     pub activation: i64,
 }
 

@@ -1,5 +1,6 @@
-ghost use Rattle.std.specs.Prelude.{◌≡◌, ◌^◌, ◌≤◌, OnOk, length, []};
+ghost use Rattle.std.specs.Prelude.{◌≡◌, ◌≤◌, OnOk, length, []};
 ghost use Rattle.kmc_base.specs.Entries.{IsRising, codes_of};
+ghost use Rattle.kmc_base.specs.declared.limits.TheConstants.{END_OF_TIME};
 ghost use Rattle.kmc_core.specs.Deck.{IsSound};
 ghost use Rattle.kmc_core.specs.PlainSystem.{system_of};
 ghost use Rattle.kmc_core.specs.Trajectory.{renewed};
@@ -9,7 +10,7 @@ use crate::deck::PlainDeck;
 use crate::entries::Entries;
 use crate::listing::AnchorList;
 use crate::renewal::Renewal;
-use kmc_base::{Firing, OutOfMemory};
+use kmc_base::OutOfMemory;
 use lattice_core::Config;
 use std::alloc::Global;
 use std::marker::Brand;
@@ -38,27 +39,29 @@ impl EntryLists {
         }
     }
 
-    /// Makes the next entries: those after an event that ended in a configuration, whose instances are listed anew.
+    /// Makes the next entries: those after an event, at its time, that fired the instance of a code, if it fired one, and
+    /// ended in a configuration, whose instances are listed again.
     pub(crate) fn renew(
         &mut self,
         alloc: Global,
         deck: &PlainDeck,
         config: &Config,
-        first: Firing,
         event: u64,
+        time: u128,
+        fired: Option<u128>,
     ) -> Result<(), OutOfMemory>
         requires deck { IsSound deck.now }
         requires configuration { length config.now ≡ site_count deck.now.graph }
-        requires time { first.time ≤ 10 ^ 30 }
+        requires time { time ≤ END_OF_TIME }
         requires current { IsRising (codes_of self.old.current) }
         ensures current { self.new.current ≡ self.old.current }
         ensures next { OnOk result (self.new.next
-            ≡ renewed deck.now.plan.seed event self.old.current first ((system_of deck.now).offers config.now)) }
+            ≡ renewed deck.now.plan.seed event time fired self.old.current ((system_of deck.now).offers config.now)) }
     {
         self.next.clear();
         // An event changes few instances: about as many entries come after it as before it.
         self.next.reserve(self.current.as_slice().len())?;
-        let mut renewal = Renewal::new(deck.plan.seed, event, first);
+        let mut renewal = Renewal::new(deck.plan.seed, event, time, fired);
         renewal.renew::<Brand>(
             &mut self.next,
             self.current.as_slice(),

@@ -11,7 +11,7 @@ ghost use Rattle.pattern_types.specs.Parts.{vertex_count};
 ghost use Rattle.pattern_types.specs.Soundness.{IsSound as IsPattern};
 
 use crate::deck::PlainProcess;
-use kmc_base::{SiteId, SpeciesId};
+use kmc_base::{MAX_DENTATES, MAX_SPECIES, SiteId, SpeciesId};
 use lattice_core::Config;
 use pattern_types::{Pattern, Placement, Wanted};
 use species_book::SpeciesBook;
@@ -24,14 +24,14 @@ struct Entity {
 }
 
 /// The sites of an entity in the order of its dentates, in the first places.
-fn entity_sites(side: &Pattern, sites: &[SiteId], entity: u8) -> [SiteId; 8]
+fn entity_sites(side: &Pattern, sites: &[SiteId], entity: u8) -> [SiteId; MAX_DENTATES]
     requires vertices { length sites.now ≡ vertex_count side.now }
     requires dentates { All IsFewDentates side.now.wanted }
     requires pattern { IsPattern side.now }
-    ensures eight { length result ≡ 8 }
+    ensures count { length result ≡ MAX_DENTATES }
     ensures placed { HasSites side.now.wanted (site_numbers sites.now) entity (site_numbers result) }
 {
-    let mut own = [SiteId(0); 8];
+    let mut own = [SiteId(0); MAX_DENTATES];
     for (place, site) in sites.iter().enumerate() {
         if let Wanted::Holds {
             entity: other,
@@ -49,7 +49,7 @@ fn entity_sites(side: &Pattern, sites: &[SiteId], entity: u8) -> [SiteId; 8]
 
 /// The entity of which a vertex wants dentate 1, if it wants one.
 fn entity_from(book: &SpeciesBook, side: &Pattern, sites: &[SiteId], vertex: u8) -> Option<Entity>
-    requires dentates { All (λ d. (1 ≤ d) × (d ≤ 8)) book.now.dentates }
+    requires dentates { All (λ d. (1 ≤ d) × (d ≤ MAX_DENTATES)) book.now.dentates }
     requires side { IsSoundSide (dentates_in book.now) side.now }
     requires vertices { length sites.now ≡ vertex_count side.now }
     requires some { 1 ≤ vertex }
@@ -69,7 +69,7 @@ fn entity_from(book: &SpeciesBook, side: &Pattern, sites: &[SiteId], vertex: u8)
     if dentate != 1 {
         return None;
     }
-    prove!(book.surface_names().len() <= 64);
+    prove!(book.surface_names().len() <= MAX_SPECIES);
     let own = entity_sites(side, sites, entity);
     let count = usize::from(book.dentates(species));
     Some(Entity {
@@ -80,7 +80,7 @@ fn entity_from(book: &SpeciesBook, side: &Pattern, sites: &[SiteId], vertex: u8)
 
 /// Takes the entities of a side off the sites on which its vertices fall.
 fn clear_side(config: &mut Config, book: &SpeciesBook, side: &Pattern, sites: &[SiteId])
-    requires dentates { All (λ d. (1 ≤ d) × (d ≤ 8)) book.now.dentates }
+    requires dentates { All (λ d. (1 ≤ d) × (d ≤ MAX_DENTATES)) book.now.dentates }
     requires side { IsSoundSide (dentates_in book.now) side.now }
     requires vertices { length sites.now ≡ vertex_count side.now }
     requires different { AllPairs (λ s t. s ≢ t) (site_numbers sites.now) }
@@ -100,7 +100,7 @@ fn clear_side(config: &mut Config, book: &SpeciesBook, side: &Pattern, sites: &[
 
 /// Puts the entities of a side on the sites on which its vertices fall.
 fn set_side(config: &mut Config, book: &SpeciesBook, side: &Pattern, sites: &[SiteId])
-    requires dentates { All (λ d. (1 ≤ d) × (d ≤ 8)) book.now.dentates }
+    requires dentates { All (λ d. (1 ≤ d) × (d ≤ MAX_DENTATES)) book.now.dentates }
     requires side { IsSoundSide (dentates_in book.now) side.now }
     requires vertices { length sites.now ≡ vertex_count side.now }
     requires inside { All (λ s. s < length config.old) (site_numbers sites.now) }
@@ -125,7 +125,7 @@ pub(crate) fn fire(
     process: &PlainProcess,
     sites: &[SiteId],
 )
-    requires dentates { All (λ d. (1 ≤ d) × (d ≤ 8)) book.now.dentates }
+    requires dentates { All (λ d. (1 ≤ d) × (d ≤ MAX_DENTATES)) book.now.dentates }
     requires process { IsSoundProcess (dentates_in book.now) process.now }
     requires vertices { length sites.now ≡ vertex_count process.now.before }
     requires inside { All (λ s. s < length config.old) (site_numbers sites.now) }

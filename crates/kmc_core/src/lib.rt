@@ -2,12 +2,12 @@
 //! event to the next by rescanning the whole lattice.
 //!
 //! A process, an elementary step in one direction, is a pair of patterns: what it asks of the sites of
-//! an instance, and what stands on them afterwards. A `Closed` is the state of its deck's trajectory at
+//! an instance, and what is on them afterwards. A `Closed` is the state of its deck's trajectory at
 //! its event, by its type; an `Unclosed` has fired the next event and cannot be fired itself. A run
 //! ends for the first of four reasons that holds: an output has all its samples, the greatest number
 //! of events is reached, nothing can fire any more, or what fires next comes after the greatest time.
 //!
-//! The crate stands on `kmc_base` for entries and the rule by which they keep their times, on
+//! The crate builds on `kmc_base` for entries and the rule by which they keep their times, on
 //! `lattice_core` for the lattice and its configuration, on `pattern_types` and `pattern_list` for
 //! patterns and their instances, on `sim_deck` for the plan of a run, on `species_book` for its
 //! species, on `fixed_math` for waiting times and on `named_draws` for random numbers.
@@ -19,11 +19,10 @@ mod entries;
 mod entry_lists;
 mod fired;
 mod firing;
+mod instance;
 mod listing;
 mod renewal;
 mod stop;
-#[cfg(test)]
-mod tests;
 mod unclosed;
 
 pub use closed::Closed;

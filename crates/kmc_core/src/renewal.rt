@@ -1,62 +1,25 @@
 ghost use Rattle.std.specs.Prelude.{◌≡◌, ℕ, ◌+◌, ◌*◌, ◌^◌, ◌<◌, ◌≤◌, ◌++◌, OnOk, IfOk, IfSome, Some, length, map, slice_get, option_copied};
 ghost use Rattle.std.specs.List.{AllByRecursion};
 ghost use Rattle.kmc_base.specs.Entries.{IsRising, codes_of, kept_or, entry_at};
+ghost use Rattle.kmc_base.specs.declared.limits.TheConstants.{END_OF_TIME};
 ghost use Rattle.kmc_core.specs.Deck.{IsSound};
 ghost use Rattle.kmc_core.specs.Instances.{by_code, instances_of};
 ghost use Rattle.kmc_core.specs.ListedProcess.{IsListed};
-ghost use Rattle.kmc_core.specs.Offers.{IsOffer};
+ghost use Rattle.kmc_core.specs.InstanceRange.{IsInRange};
 ghost use Rattle.kmc_core.specs.PlainSystem.{system_of};
 ghost use Rattle.kmc_core.specs.Trajectory.{fresh, renewed};
 ghost use Rattle.lattice_core.specs.Lattice.{site_count};
 
 use crate::deck::PlainDeck;
 use crate::entries::Entries;
-use crate::listing::{AnchorList, ListedProcess, Offer};
+use crate::instance::Instance;
+use crate::listing::{AnchorList, ListedProcess};
 use fixed_math::wait;
-use kmc_base::{Entry, Firing, OutOfMemory, SiteId};
+use kmc_base::{Entry, OutOfMemory, SiteId};
 use lattice_core::{Config, Steps};
 use named_draws::Draws;
 use std::alloc::Global;
 use std::sync::ledger::{Blank, Ledger};
-
-/// An instance whose waiting time is drawn at an event, at the event's time.
-fn fresh_entry(draws: &mut Draws, event: u64, time: u128, offer: Offer) -> Entry
-    requires offer { IsOffer offer }
-    requires time { time ≤ 10 ^ 30 }
-    ensures value { result ≡ fresh draws.old event time offer }
-    ensures seed { draws.new ≡ draws.old }
-{
-    let (code, lg) = offer;
-    let word = draws.draw(event, code);
-    Entry {
-        code,
-        lg,
-        born: event,
-        born_time: time,
-        when: wait(lg, word, time),
-    }
-}
-
-/// The entry of an instance after an event: the old one, where there is one with the same rate and
-/// it was not the one fired, or a fresh one.
-fn renewed_entry(
-    old: Option<&Entry>,
-    first: Firing,
-    draws: &mut Draws,
-    event: u64,
-    offer: Offer,
-) -> Entry
-    requires offer { IsOffer offer }
-    requires time { first.time ≤ 10 ^ 30 }
-    ensures value { result ≡ kept_or (Some first.code) (option_copied old.entry) (fresh draws.old event first.time offer) }
-    ensures seed { draws.new ≡ draws.old }
-{
-    let Firing { time, code: fired } = first;
-    match old {
-        Some(entry) if entry.lg == offer.1 && offer.0 != fired => *entry,
-        _ => fresh_entry(draws, event, time, offer),
-    }
-}
 
 /// What is left of rising entries once those with lesser codes are passed over.
 fn skip_below(entries: &[Entry], code: u128) -> &[Entry]
@@ -88,25 +51,58 @@ fn entry_of(entries: &[Entry], code: u128) -> Option<&Entry>
     }
 }
 
-/// By what the entries after an event are made: its number, what fired, and the draws of the run. At the opening this is
-/// event 0 with (0, 0): there are no old entries, so no code is looked at.
+/// By what the entries after an event are made: its number and its time, what fired, and the draws of the run.
 #[derive(Drop)]
 pub(crate) struct Renewal {
     event: u64,
-    // The time of the event in as, and the code that fired.
-    first: Firing,
+    // In attoseconds.
+    time: u128,
+    // The code of the instance that fired, if one did: at the start of a run none has.
+    fired: Option<u128>,
     draws: Draws,
 }
 
 impl Renewal {
     /// An event of a run with this random seed.
-    pub(crate) fn new(seed: u64, event: u64, first: Firing) -> Renewal
-        ensures { result ≡ record { event = event; first = first; draws = seed } }
+    pub(crate) fn new(seed: u64, event: u64, time: u128, fired: Option<u128>) -> Renewal
+        ensures { result ≡ record { event = event; time = time; fired = fired; draws = seed } }
     {
         Renewal {
             event,
-            first,
+            time,
+            fired,
             draws: Draws::new(seed),
+        }
+    }
+
+    /// An instance whose waiting time is drawn at the event.
+    fn fresh_entry(&mut self, instance: Instance) -> Entry
+        requires instance { IsInRange instance }
+        requires time { self.old.time ≤ END_OF_TIME }
+        ensures value { result ≡ fresh self.old.draws self.old.event self.old.time instance }
+        ensures same { self.new ≡ self.old }
+    {
+        let word = self.draws.draw(self.event, instance.code);
+        Entry {
+            code: instance.code,
+            lg: instance.lg,
+            born: self.event,
+            born_time: self.time,
+            when: wait(instance.lg, word, self.time),
+        }
+    }
+
+    /// The entry of an instance after the event: the old one, if there is one with the same rate and it was not the
+    /// one fired, or a fresh one.
+    fn renewed_entry(&mut self, old: Option<&Entry>, instance: Instance) -> Entry
+        requires instance { IsInRange instance }
+        requires time { self.old.time ≤ END_OF_TIME }
+        ensures value { result ≡ kept_or self.old.fired (option_copied old.entry) (fresh self.old.draws self.old.event self.old.time instance) }
+        ensures same { self.new ≡ self.old }
+    {
+        match old {
+            Some(entry) if entry.lg == instance.lg && self.fired != Some(instance.code) => *entry,
+            _ => self.fresh_entry(instance),
         }
     }
 
@@ -116,22 +112,22 @@ impl Renewal {
         &mut self,
         entries: &mut Entries,
         old: &'a [Entry],
-        offers: &[Offer],
+        instances: &[Instance],
     ) -> Result<&'a [Entry], OutOfMemory>
-        requires time { self.old.first.time ≤ 10 ^ 30 }
+        requires time { self.old.time ≤ END_OF_TIME }
         requires old { IsRising (codes_of old.now) }
-        requires rising { IsRising (map (λ offer. offer.0) offers.now) }
-        requires offers { AllByRecursion IsOffer offers.now }
-        ensures value { OnOk result (entries.new ≡ entries.old ++ renewed self.old.draws self.old.event old.now self.old.first offers.now) }
+        requires rising { IsRising (map (λ i. i.code) instances.now) }
+        requires in_range { AllByRecursion IsInRange instances.now }
+        ensures value { OnOk result (entries.new ≡ entries.old ++ renewed self.old.draws self.old.event self.old.time self.old.fired old.now instances.now) }
         ensures rest { IfOk result (λ rest. IsRising (codes_of rest.now)) }
-        ensures later { IfOk result (λ rest. (c : ℕ) → AllByRecursion (λ offer. offer.0 ≤ c) offers.now → entry_at c rest.now ≡ entry_at c old.now) }
+        ensures later { IfOk result (λ rest. (c : ℕ) → AllByRecursion (λ i. i.code ≤ c) instances.now → entry_at c rest.now ≡ entry_at c old.now) }
         ensures same { self.new ≡ self.old }
     {
         let mut rest = old;
-        for offer in offers {
-            rest = skip_below(rest, offer.0);
-            let entry = entry_of(rest, offer.0);
-            let entry = renewed_entry(entry, self.first, &mut self.draws, self.event, *offer);
+        for instance in instances {
+            rest = skip_below(rest, instance.code);
+            let old_entry = entry_of(rest, instance.code);
+            let entry = self.renewed_entry(old_entry, *instance);
             entries.push(entry)?;
         }
         Ok(rest)
@@ -148,10 +144,10 @@ impl Renewal {
         listed: &ListedProcess<'_>,
         steps: &mut Steps<L>,
     ) -> Result<&'a [Entry], OutOfMemory>
-        requires time { self.old.first.time ≤ 10 ^ 30 }
+        requires time { self.old.time ≤ END_OF_TIME }
         requires old { IsRising (codes_of old.now) }
         requires listed { IsListed listed.now }
-        ensures value { OnOk result (entries.new ≡ entries.old ++ renewed self.old.draws self.old.event old.now self.old.first
+        ensures value { OnOk result (entries.new ≡ entries.old ++ renewed self.old.draws self.old.event self.old.time self.old.fired old.now
             (by_code (instances_of listed.now.deck.now.temperature listed.now.deck.now.graph listed.now.config.now listed.now.number listed.now.process.now))) }
         ensures rest { IfOk result (λ rest. IsRising (codes_of rest.now)) }
         ensures later { IfOk result (λ rest. (c : ℕ) → (listed.now.number + 1) * 2 ^ 55 ≤ c → entry_at c rest.now ≡ entry_at c old.now) }
@@ -160,7 +156,7 @@ impl Renewal {
         let mut rest = old;
         for anchor in 0..listed.deck.graph.len() {
             list.fill(alloc, listed, SiteId(anchor), steps)?;
-            rest = self.merge(entries, rest, &list.offers)?;
+            rest = self.merge(entries, rest, &list.instances)?;
         }
         Ok(rest)
     }
@@ -179,14 +175,14 @@ impl Renewal {
         requires name { blank.name ≡ L.name }
         requires parts { blank.parts ≡ L.parts }
         requires has_a_part { 0 < L.parts }
-        requires time { self.old.first.time ≤ 10 ^ 30 }
+        requires time { self.old.time ≤ END_OF_TIME }
         requires old { IsRising (codes_of old.now) }
         requires deck { IsSound deck.now }
         requires configuration { length config.now ≡ site_count deck.now.graph }
         ensures { OnOk result (entries.new ≡ entries.old
-            ++ renewed self.old.draws self.old.event old.now self.old.first ((system_of deck.now).offers config.now)) }
+            ++ renewed self.old.draws self.old.event self.old.time self.old.fired old.now ((system_of deck.now).offers config.now)) }
     {
-        // No one looks at this count of reads.
+        // This count of reads is not used.
         let mut steps = Steps::<L>::new(blank);
         let mut rest = old;
         for (number, process) in deck.processes.as_slice().iter().enumerate() {

@@ -1,8 +1,8 @@
-ghost use Rattle.std.specs.Prelude.{◌≡◌, ◌^◌, ◌≤◌};
+ghost use Rattle.std.specs.Prelude.{◌≡◌, ◌≤◌};
 ghost use Rattle.kmc_core.specs.Stops.{end_of_time as end_of, is_full as is_full_at, samples_due as due_at, some_output_is_full as some_is_full_at, stop_at as stops_at, stop_before as stops_before};
 ghost use Rattle.sim_deck.specs.Soundness.{IsPeriod, IsSoundPlan};
 
-use kmc_base::Firing;
+use kmc_base::{END_OF_TIME, Firing};
 use sim_deck::{Plan, Sampling};
 
 /// Why a run has ended: the first of these that holds after its event.
@@ -14,20 +14,17 @@ pub enum Stop {
     Steps,
     /// No instance has a time: nothing can fire any more.
     Still,
-    /// The next event would come after the greatest time: `max_time` of the deck, or 10^30 as (10^12 s).
+    /// The next event would come after the greatest time: `max_time` of the deck, or the end of time.
     Horizon,
 }
 
 /// The greatest number of samples of an output.
 const MAX_SAMPLES: u128 = 10_000_000;
 
-/// The end of time in as, where the deck has none of its own.
-const END_OF_TIME: u128 = 1_000_000_000_000_000_000_000_000_000_000;
-
 /// How many samples of an output are due at an event and its time.
 fn samples_due(sampling: Sampling, event: u64, time: u128) -> u128
     requires period { IsPeriod sampling }
-    requires time { time ≤ 10 ^ 30 }
+    requires time { time ≤ END_OF_TIME }
     ensures { result ≡ due_at sampling event time }
 {
     match sampling {
@@ -40,7 +37,7 @@ fn samples_due(sampling: Sampling, event: u64, time: u128) -> u128
 /// Whether an output has as many samples as it may have.
 fn is_full(sampling: Sampling, event: u64, time: u128) -> bool
     requires period { IsPeriod sampling }
-    requires time { time ≤ 10 ^ 30 }
+    requires time { time ≤ END_OF_TIME }
     ensures { result ≡ is_full_at sampling event time }
 {
     MAX_SAMPLES <= samples_due(sampling, event, time)
@@ -49,7 +46,7 @@ fn is_full(sampling: Sampling, event: u64, time: u128) -> bool
 /// Whether some output has as many samples as it may have.
 fn some_output_is_full(plan: &Plan, event: u64, time: u128) -> bool
     requires plan { IsSoundPlan plan.now }
-    requires time { time ≤ 10 ^ 30 }
+    requires time { time ≤ END_OF_TIME }
     ensures { result ≡ some_is_full_at plan.now event time }
 {
     is_full(plan.history, event, time)
@@ -57,7 +54,7 @@ fn some_output_is_full(plan: &Plan, event: u64, time: u128) -> bool
         || is_full(plan.specnum, event, time)
 }
 
-/// The end of time of a plan, in as.
+/// The greatest time of a plan, in attoseconds.
 fn end_of_time(plan: &Plan) -> u128
     ensures { result ≡ end_of plan.now }
 {
@@ -76,14 +73,9 @@ fn stop_before(plan: &Plan, least: Option<Firing>) -> Option<Stop>
 }
 
 /// Whether and why a run stops after an event, by the event's time and by the firing that comes next.
-pub(crate) fn stop_at(
-    plan: &Plan,
-    event: u64,
-    time: u128,
-    least: Option<Firing>,
-) -> Option<Stop>
+pub(crate) fn stop_at(plan: &Plan, event: u64, time: u128, least: Option<Firing>) -> Option<Stop>
     requires plan { IsSoundPlan plan.now }
-    requires time { time ≤ 10 ^ 30 }
+    requires time { time ≤ END_OF_TIME }
     ensures { result ≡ stops_at plan.now event time least }
 {
     if some_output_is_full(plan, event, time) {

@@ -23,13 +23,13 @@ pub struct Undone {
     pub mask: u64,
 }
 
-/// A run whose next event has fired. `rescan` lists its instances anew, and then `close` closes it; it
+/// A run whose next event has fired. `rescan` lists its instances again, and then `close` closes it; it
 /// cannot fire before.
 #[derive(Debug, Drop)]
 pub struct Unclosed {
     deck: PlainDeck,
     event: u64,
-    // The time of the event and the code that fired.
+    // What fired, and when: the time of the event.
     first: Firing,
     config: Config,
     lists: EntryLists,
@@ -54,7 +54,7 @@ impl Model for Unclosed {
 fn fire_code(config: &mut Config, deck: &PlainDeck, code: u128)
     requires deck { IsSound deck.now }
     requires configuration { length config.old ≡ site_count deck.now.graph }
-    requires offered { Contains (map (λ offer. offer.0) ((system_of deck.now).offers config.old)) code }
+    requires offered { Contains (map (λ i. i.code) ((system_of deck.now).offers config.old)) code }
     requires well_formed { IsWellFormed (dentates_in deck.now.book) config.old }
     ensures states { config.new ≡ (system_of deck.now).fires config.old code }
     ensures well_formed { IsWellFormed (dentates_in deck.now.book) config.new }
@@ -96,23 +96,30 @@ impl Unclosed {
         if self.listed { 0 } else { 1 }
     }
 
-    /// Lists the instances of the whole lattice anew: an instance that was there with the same rate,
-    /// and was not the one fired, keeps its entry; every other is drawn at this event. Where they are
-    /// listed already it does nothing, and takes no memory. A refusal leaves the run as it was.
+    /// Lists the instances of the whole lattice again: an instance that was there with the same rate,
+    /// and was not the one fired, keeps its entry; every other is drawn at this event. If they are
+    /// listed already, it does nothing and takes no memory. A refusal leaves the run as it was.
     pub fn rescan(&mut self, alloc: Global) -> Result<(), OutOfMemory>
         ensures ok { OnOk result (self.new ≡ record self.old { undone = 0 }) }
         ensures err { OnErr result (self.new ≡ self.old) }
         ensures needed { OnErr result (self.old.undone ≢ 0) }
     {
         if !self.listed {
-            self.lists
-                .renew(alloc, &self.deck, &self.config, self.first, self.event)?;
+            let Firing { time, code } = self.first;
+            self.lists.renew(
+                alloc,
+                &self.deck,
+                &self.config,
+                self.event,
+                time,
+                Some(code),
+            )?;
             self.listed = true;
         }
         Ok(())
     }
 
-    /// Closes the event where nothing is undone, else hands the run back as it was. It takes no memory.
+    /// Closes the event if nothing is undone, else hands the run back as it was. It takes no memory.
     pub fn close(self) -> Result<Closed, (Unclosed, Undone)>
         ensures ok { IfOk result (λ closed. (self.undone ≡ 0) × (closed ≡ record { deck = self.deck; event = self.event })) }
         ensures err { IfErr result (λ refused. (refused.0 ≡ self) × (refused.1.mask ≡ self.undone) × (self.undone ≢ 0)) }

@@ -1,5 +1,5 @@
 use Rattle.std.proofs.Common.{◌∙◌}
-use Rattle.kmc_core.proofs.Homes.{counted}
+use Rattle.kmc_core.proofs.AdsorbateCounts.{counted}
 use Rattle.kmc_core.proofs.closed.count_homes.Goals as goal
 
 pub returns : goal.returns

@@ -1,7 +1,7 @@
 use Rattle.std.proofs.Common.{◌≡◌, ℕ, ◌+◌, ◌-◌, ◌∙◌, ◌<◌, ◌≤◌, length, ap, sym, subst, arith}
 use Rattle.kmc_core.specs.Deck.{dentates_in}
 use Rattle.kmc_core.proofs.FiringSites.{IsProgress, progress_still}
-use Rattle.kmc_core.proofs.FiringSteps.{whole_entity, clear_more, all_vacant}
+use Rattle.kmc_core.proofs.FiringEachEntity.{whole_entity, clear_more, all_vacant}
 use Rattle.lattice_core.specs.Config.{IsWholeAdsorbate, IsWellFormed, cleared}
 use Rattle.lattice_core.specs.SiteList.{site_numbers}
 use Rattle.lattice_core.specs.declared.state.State.TheVariants.{Vacant}

@@ -34,4 +34,4 @@ returns c =
     (c.args.vertex - 1) c.in-Holds.species (site_numbers sites)) count
     (entity_is (dentates_in book) c.args.side.now c.requires.side (c.args.vertex - 1) c.in-Holds.entity
     c.in-Holds.species (site_numbers c.args.sites.now) own.result (first (goal.at.returns c).Else-dentate-ne1)
-    own.ensures.eight (up_to_eight book.dentates c.requires.dentates c.in-Holds.species.0) own.ensures.placed)
+    own.ensures.count (up_to_eight book.dentates c.requires.dentates c.in-Holds.species.0) own.ensures.placed)

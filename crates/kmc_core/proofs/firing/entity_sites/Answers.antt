@@ -29,19 +29,19 @@ loop-place-preserved c =
           let here = read ∙ w.in-Holds.is ∙ ap (λ e. Holds e w.in-Holds.species w.in-Holds.dentate) w.if-other-entity.true in
           let written = w.own-is ∙ ap (λ n. set c.loop-place.own (n - 1) (get_or c.args.sites.now i (record { 0 = 0 }))) w.from.ensures in
           record {
-            eight = ap length written ∙ length-set _ _ _ ∙ before.eight;
+            count = ap length written ∙ length-set _ _ _ ∙ before.count;
             placed = subst (Placed c) (sym written)
                 (placed_more c.args.side.now c.requires.pattern c.requires.dentates sites c.loop-place.own
-                c.args.entity i w.in-Holds.dentate w.in-Holds.species _ here before.eight (sym is.1) before.placed);
+                c.args.entity i w.in-Holds.dentate w.in-Holds.species _ here before.count (sym is.1) before.placed);
           }
       | in-Holds+else-other-entity w ↦ record {
-        eight = ap length w.own-is ∙ before.eight;
+        count = ap length w.own-is ∙ before.count;
         placed = subst (Placed c) (sym w.own-is)
             (none (λ d p want. w.if-other-entity.false (entity_of (sym (read ∙ w.in-Holds.is) ∙ want)))
             before.placed);
       }
       | in_default w ↦ record {
-        eight = ap length w.own-is ∙ before.eight;
+        count = ap length w.own-is ∙ before.count;
         placed = subst (Placed c) (sym w.own-is) (none (λ d p want. w.in_default.not-Holds c.args.entity p d (sym read ∙ want)) before.placed);
       }
     ]

@@ -8,7 +8,7 @@ use Rattle.kmc_core.proofs.firing.entity_sites.Given as goal
 -- the vertices so far have their sites in their places
 abbrev pub invariant-loop-place : goal.invariant-loop-place
 invariant-loop-place l = record {
-  eight : length l.own ≡ 8;
+  count : length l.own ≡ 8;
   placed : (k d : ℕ) (p : SpeciesId) → k < l.place → want_at l.side.wanted k ≡ Holds l.entity p d
       → get_or (site_numbers l.own) (d - 1) 0 ≡ get_or (site_numbers l.sites) k 0;
 }

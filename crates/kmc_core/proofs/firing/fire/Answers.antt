@@ -1,5 +1,5 @@
 use Rattle.std.proofs.Common.{◌∙◌, length, ap, sym}
-use Rattle.kmc_core.proofs.FiringSteps.{same_elsewhere}
+use Rattle.kmc_core.proofs.FiringEachEntity.{same_elsewhere}
 use Rattle.lattice_core.specs.SiteList.{site_numbers}
 use Rattle.pattern_list.proofs.Numbers.{length-numbers}
 use Rattle.kmc_core.proofs.firing.fire.Goals as goal

@@ -1,7 +1,7 @@
 use Rattle.std.proofs.Common.{◌≡◌, ◌≢◌, ℕ, ◌+◌, ◌-◌, ◌∙◌, ◌<◌, ◌≤◌, All, AllPairs, length, ap, sym, subst, arith}
 use Rattle.kmc_core.specs.Deck.{dentates_in}
 use Rattle.kmc_core.proofs.FiringSites.{IsProgress, own_different, progress_still}
-use Rattle.kmc_core.proofs.FiringSteps.{next_of, own_inside, own_vacant, set_more, all_set}
+use Rattle.kmc_core.proofs.FiringEachEntity.{next_of, own_inside, own_vacant, set_more, all_set}
 use Rattle.lattice_core.specs.Config.{IsWellFormed, put, state_at}
 use Rattle.lattice_core.specs.SiteList.{site_numbers}
 use Rattle.lattice_core.specs.declared.state.State.TheVariants.{Vacant}

@@ -1,7 +1,7 @@
 use Rattle.std.proofs.Common.{◌-◌}
 use Rattle.kmc_core.specs.Deck.{dentates_in}
 use Rattle.kmc_core.proofs.FiringSites.{IsProgress}
-use Rattle.kmc_core.proofs.FiringSteps.{next_of}
+use Rattle.kmc_core.proofs.FiringEachEntity.{next_of}
 use Rattle.lattice_core.specs.Config.{IsWellFormed}
 use Rattle.lattice_core.specs.SiteList.{site_numbers}
 use Rattle.kmc_core.proofs.firing.set_side.Given as goal

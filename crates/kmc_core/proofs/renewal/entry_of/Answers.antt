@@ -1,4 +1,4 @@
-use Rattle.kmc_core.proofs.Merging.{no_entry}
+use Rattle.kmc_core.proofs.MergedEntries.{no_entry}
 use Rattle.kmc_core.proofs.renewal.entry_of.Goals as goal
 
 pub returns-in-len1-up-2 : goal.returns-in-len1-up-2

@@ -2,7 +2,7 @@ use Rattle.std.proofs.Common.{◌∙◌, ap, sym}
 use Rattle.std.proofs.lemmas.List.{length-map}
 use Rattle.kmc_base.specs.declared.ids.SiteId.{SiteId}
 use Rattle.lattice_core.specs.SiteList.{site_numbers}
-use Rattle.kmc_core.proofs.Placed.{decoded, named, process_is_there}
+use Rattle.kmc_core.proofs.OfferedPlacements.{decoded, named, process_is_there}
 use Rattle.kmc_core.specs.PlainSystem.{process_of}
 use Rattle.kmc_core.proofs.unclosed.fire_code.Goals as goal
 

@@ -1,4 +1,4 @@
-use Rattle.kmc_core.proofs.Homes.{dentates-few}
+use Rattle.kmc_core.proofs.AdsorbateCounts.{dentates-few}
 use Rattle.kmc_core.specs.Deck.{dentates_in}
 use Rattle.kmc_core.proofs.closed.Closed.counts_of.Goals as goal
 

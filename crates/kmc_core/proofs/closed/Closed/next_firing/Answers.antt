@@ -1,4 +1,4 @@
-use Rattle.kmc_core.proofs.Facts.{closed-well}
+use Rattle.kmc_core.proofs.Runs.{closed-well}
 use Rattle.kmc_core.proofs.closed.Closed.next_firing.Goals as goal
 
 pub stop_at-requires-clause-time : goal.stop_at-requires-clause-time

@@ -1,4 +1,4 @@
-use Rattle.kmc_core.proofs.Facts.{closed-well}
+use Rattle.kmc_core.proofs.Runs.{closed-well}
 use Rattle.kmc_core.proofs.closed.Closed.time.Goals as goal
 
 pub returns-clause-range : goal.returns-clause-range

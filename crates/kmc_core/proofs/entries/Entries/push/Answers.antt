@@ -1,6 +1,6 @@
 use Rattle.std.proofs.Common.{◌∙◌, ap, sym}
 use Rattle.kmc_base.specs.Entries.{first_of_two, least as least_of}
-use Rattle.kmc_core.proofs.EntriesPushed.{least-pushed}
+use Rattle.kmc_core.proofs.FirstFirings.{least-pushed}
 use Rattle.kmc_core.proofs.entries.Entries.push.Goals as goal
 
 pub invariant_of-self-2 : goal.invariant_of-self-2

@@ -4,9 +4,10 @@ use Rattle.std.specs.List.{AllByRecursion}
 use Rattle.kmc_core.specs.Instances.{by_code, instances_from, instances_of}
 use Rattle.kmc_core.specs.Trajectory.{renewed}
 use Rattle.kmc_core.specs.declared.deck.PlainProcess.{PlainProcess}
-use Rattle.kmc_core.proofs.Anchors.{listed-few, listed-fine, own-instances}
+use Rattle.kmc_core.specs.declared.instance.Instance.{Instance}
+use Rattle.kmc_core.proofs.AnchorInstances.{listed-few, listed-fine, own-instances}
 use Rattle.kmc_core.proofs.Instances.{process-from, process-to, processes-from}
-use Rattle.kmc_core.proofs.Merging.{added-alike, none-left, renewed-part}
+use Rattle.kmc_core.proofs.MergedEntries.{added-alike, none-left, renewed-part}
 use Rattle.kmc_core.proofs.renewal.Renewal.renew.Goals as goal
 
 pub loop-number-preserved : goal.loop-number-preserved
@@ -30,7 +31,7 @@ loop-number-preserved g c =
     let low : number < length deck.processes = omega arith in
     let at : get_or deck.processes number process ≡ process =
     sym (c.process-item.is ∙ ap (λ ps. get_or ps number process) c.as_slice-process-items.ensures) in
-    let all = c.args.entries.now ++ renewed event.draws event.event old event.first
+    let all = c.args.entries.now ++ renewed event.draws event.event event.time event.fired old
     (by_code (instances_from deck.temperature deck.graph states 0 deck.processes)) in
     let here = instances_of listed.deck.now.temperature listed.deck.now.graph listed.config.now listed.number listed.process.now in
     let later = instances_from deck.temperature deck.graph states (number + 1) (drop (number + 1) deck.processes) in
@@ -43,15 +44,15 @@ loop-number-preserved g c =
     let more = added-alike c.loop-number.self event entries c.renew_process.new.entries rest (by_code here)
     (by_code here) kept.same refl c.in_ok-rest.ensures.value in
     record {
-      done = renewed-part event.draws event.event old rest event.first (listed.number * 2 ^ 55)
+      done = renewed-part event.draws event.event event.time event.fired old rest (listed.number * 2 ^ 55)
           ((listed.number + 1) * 2 ^ 55) entries c.renew_process.new.entries all here later
           (λ code above. kept.found code (omega arith))
           (process-from listed.deck.now is.sound listed.config.now listed.number listed.process.now few is.process fine)
           (process-to listed.deck.now is.sound listed.config.now listed.number listed.process.now few is.process fine)
-          (subst (λ n. AllByRecursion (λ (o : ℕ × Option ℤ). (n + 1) * 2 ^ 55 ≤ o.0) later) (sym own)
+          (subst (λ n. AllByRecursion (λ (o : Instance). (n + 1) * 2 ^ 55 ≤ o.code) later) (sym own)
           (processes-from deck c.requires.deck states (number + 1) (omega arith)))
           more
-          (subst (λ offers. entries ++ renewed event.draws event.event old event.first (by_code offers) ≡ all) split kept.done);
+          (subst (λ offers. entries ++ renewed event.draws event.event event.time event.fired old (by_code offers) ≡ all) split kept.done);
       same = c.renew_process.ensures.same ∙ kept.same;
       rest = c.in_ok-rest.ensures.rest;
       found = λ code above. c.in_ok-rest.ensures.later code (omega arith) ∙ kept.found code (omega arith);
@@ -65,8 +66,8 @@ returns g c =
     let number = c.loop-number.number in
     let test = c.loop-number-test.false in
     let items = ap length c.as_slice-process-items.ensures in
-    let all = c.args.entries.now ++ renewed event.draws event.event c.args.old.now event.first
+    let all = c.args.entries.now ++ renewed event.draws event.event event.time event.fired c.args.old.now
     (by_code (instances_from deck.temperature deck.graph states 0 deck.processes)) in
     let left = instances_from deck.temperature deck.graph states number (drop number deck.processes) in
-    none-left event.draws event.event c.args.old.now event.first c.loop-number.entries all left
+    none-left event.draws event.event event.time event.fired c.args.old.now c.loop-number.entries all left
     (ap (instances_from deck.temperature deck.graph states number) (drop_all number deck.processes (omega arith))) c.loop-number.invariant.done

@@ -9,9 +9,9 @@ use Rattle.kmc_core.proofs.renewal.Renewal.renew.Given as goal
 -- is left of the old entries has what all of them have
 abbrev pub invariant-loop-number : goal.invariant-loop-number
 invariant-loop-number g l = record {
-  done : l.entries ++ renewed l.fn.self.draws l.fn.self.event l.old l.fn.self.first
+  done : l.entries ++ renewed l.fn.self.draws l.fn.self.event l.fn.self.time l.fn.self.fired l.old
       (by_code (instances_from l.deck.temperature l.deck.graph l.config l.number (drop l.number l.deck.processes)))
-      ≡ l.fn.entries ++ renewed l.fn.self.draws l.fn.self.event l.old l.fn.self.first ((system_of l.deck).offers l.config);
+      ≡ l.fn.entries ++ renewed l.fn.self.draws l.fn.self.event l.fn.self.time l.fn.self.fired l.old ((system_of l.deck).offers l.config);
   same : l.self ≡ l.fn.self;
   rest : IsRising (codes_of l.rest);
   found : (c : ℕ) → l.number * 2 ^ 55 ≤ c → entry_at c l.rest ≡ entry_at c l.old;

@@ -2,10 +2,11 @@ use Rattle.std.proofs.Common.{◌≡◌, ℕ, ◌+◌, ◌-◌, ◌*◌, ◌^◌
 use Rattle.std.specs.List.{AllByRecursion, range_with_len}
 use Rattle.kmc_core.specs.Instances.{by_code, instances_at, instances_of}
 use Rattle.kmc_core.specs.Trajectory.{renewed}
+use Rattle.kmc_core.specs.declared.instance.Instance.{Instance}
 use Rattle.lattice_core.specs.Lattice.{site_count}
-use Rattle.kmc_core.proofs.Anchors.{all-anchors, at-from, at-to, instances_with, later-anchors, listed-pattern, next-anchor, none-after}
-use Rattle.kmc_core.proofs.Each.{all-weaker}
-use Rattle.kmc_core.proofs.Merging.{added-alike, none-left, renewed-part}
+use Rattle.kmc_core.proofs.AnchorInstances.{all-anchors, at-from, at-to, instances_with, later-anchors, listed-pattern, next-anchor, none-after}
+use Rattle.kmc_core.proofs.AllLemmas.{all-weaker}
+use Rattle.kmc_core.proofs.MergedEntries.{added-alike, none-left, renewed-part}
 use Rattle.kmc_core.proofs.renewal.Renewal.renew_process.Goals as goal
 
 pub loop-anchor-init : goal.loop-anchor-init
@@ -13,7 +14,7 @@ loop-anchor-init g c =
     let event = c.args.self.now in
     let listed = c.args.listed.now in
     record {
-      done = ap (λ offers. c.args.entries.now ++ renewed event.draws event.event c.args.old.now event.first (by_code offers))
+      done = ap (λ offers. c.args.entries.now ++ renewed event.draws event.event event.time event.fired c.args.old.now (by_code offers))
           (all-anchors listed.deck.now.temperature listed.deck.now.graph listed.config.now listed.number
           listed.process.now (listed-pattern listed c.requires.listed) (site_count listed.deck.now.graph - 0)
           (omega arith));
@@ -40,19 +41,19 @@ loop-anchor-preserved g c =
     let count = c.len-anchor-end.ensures.count in
     let test = c.loop-anchor-test.true in
     let low : anchor < end = omega arith in
-    let all = c.args.entries.now ++ renewed event.draws event.event old event.first
+    let all = c.args.entries.now ++ renewed event.draws event.event event.time event.fired old
     (by_code (instances_of temperature lattice states number process)) in
     let here = instances_at temperature lattice states number process anchor in
-    let offers = c.fill.new.self.offers.items in
+    let offers = c.fill.new.self.instances.items in
     let are : offers ≡ by_code here = c.in_ok-fill.ensures.value in
     let seen : c.deref.result.now ≡ offers = c.deref.ensures.value in
     let more = added-alike c.loop-anchor.self event entries c.merge.new.entries rest c.deref.result.now (by_code here)
     kept.same (seen ∙ are) c.in_ok-rest.ensures.value in
-    let whole = subst (λ anchors. entries ++ renewed event.draws event.event old event.first
+    let whole = subst (λ anchors. entries ++ renewed event.draws event.event event.time event.fired old
     (by_code (instances_with temperature lattice states number process anchors)) ≡ all)
     (next-anchor anchor end low) kept.done in
     record {
-      done = renewed-part event.draws event.event old rest event.first (number * 2 ^ 55 + anchor * 2 ^ 35)
+      done = renewed-part event.draws event.event event.time event.fired old rest (number * 2 ^ 55 + anchor * 2 ^ 35)
           (number * 2 ^ 55 + (anchor + 1) * 2 ^ 35) entries c.merge.new.entries all here
           (instances_with temperature lattice states number process (range_with_len (anchor + 1) (end - (anchor + 1)))) kept.found
           (at-from temperature lattice states number process anchor)
@@ -62,9 +63,9 @@ loop-anchor-preserved g c =
       rest = c.in_ok-rest.ensures.rest;
       found = λ code above.
           c.in_ok-rest.ensures.later code
-          (subst (AllByRecursion (λ (o : ℕ × Option ℤ). o.0 ≤ code)) (sym seen)
-          (all-weaker (λ (o : ℕ × Option ℤ). o.0 < number * 2 ^ 55 + (anchor + 1) * 2 ^ 35)
-          (λ (o : ℕ × Option ℤ). o.0 ≤ code) offers (λ o below. omega arith) c.in_ok-fill.ensures.to))
+          (subst (AllByRecursion (λ (o : Instance). o.code ≤ code)) (sym seen)
+          (all-weaker (λ (o : Instance). o.code < number * 2 ^ 55 + (anchor + 1) * 2 ^ 35)
+          (λ (o : Instance). o.code ≤ code) offers (λ o below. omega arith) c.in_ok-fill.ensures.to))
           ∙ kept.found code (omega arith);
     }
 
@@ -81,8 +82,8 @@ returns-clause-value g c =
     let end = site_count lattice in
     let count = c.len-anchor-end.ensures.count in
     let test = c.loop-anchor-test.false in
-    let all = c.args.entries.now ++ renewed event.draws event.event c.args.old.now event.first
+    let all = c.args.entries.now ++ renewed event.draws event.event event.time event.fired c.args.old.now
     (by_code (instances_of temperature lattice states number process)) in
     let left = instances_with temperature lattice states number process (range_with_len anchor (end - anchor)) in
-    none-left event.draws event.event c.args.old.now event.first c.loop-anchor.entries all left
+    none-left event.draws event.event event.time event.fired c.args.old.now c.loop-anchor.entries all left
     (none-after temperature lattice states number process anchor end (omega arith)) c.loop-anchor.invariant.done

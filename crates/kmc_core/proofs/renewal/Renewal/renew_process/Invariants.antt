@@ -1,7 +1,7 @@
 use Rattle.std.proofs.Common.{◌≡◌, ℕ, ◌+◌, ◌-◌, ◌*◌, ◌^◌, ◌≤◌, ◌++◌}
 use Rattle.std.specs.List.{range_with_len}
 use Rattle.kmc_base.specs.Entries.{IsRising, codes_of, entry_at}
-use Rattle.kmc_core.proofs.Anchors.{instances_with}
+use Rattle.kmc_core.proofs.AnchorInstances.{instances_with}
 use Rattle.kmc_core.specs.Instances.{by_code, instances_of}
 use Rattle.kmc_core.specs.Trajectory.{renewed}
 use Rattle.lattice_core.specs.Lattice.{site_count}
@@ -11,11 +11,11 @@ use Rattle.kmc_core.proofs.renewal.Renewal.renew_process.Given as goal
 -- anchors, and of greater ones, what is left of the old entries has what all of them have
 abbrev pub invariant-loop-anchor : goal.invariant-loop-anchor
 invariant-loop-anchor g l = record {
-  done : l.entries ++ renewed l.fn.self.draws l.fn.self.event l.old l.fn.self.first
+  done : l.entries ++ renewed l.fn.self.draws l.fn.self.event l.fn.self.time l.fn.self.fired l.old
       (by_code (instances_with l.listed.deck.now.temperature l.listed.deck.now.graph l.listed.config.now
       l.listed.number l.listed.process.now
       (range_with_len l.anchor (site_count l.listed.deck.now.graph - l.anchor))))
-      ≡ l.fn.entries ++ renewed l.fn.self.draws l.fn.self.event l.old l.fn.self.first
+      ≡ l.fn.entries ++ renewed l.fn.self.draws l.fn.self.event l.fn.self.time l.fn.self.fired l.old
       (by_code (instances_of l.listed.deck.now.temperature l.listed.deck.now.graph l.listed.config.now l.listed.number l.listed.process.now));
   same : l.self ≡ l.fn.self;
   rest : IsRising (codes_of l.rest);

@@ -1,7 +1,7 @@
 use Rattle.std.proofs.Common.{◌≡◌, Bool, true, false, not, List, Some, None, refl, ap, sym, ◌∙◌}
 use Rattle.std.specs.Prelude.{if◌then◌else◌}
 use Rattle.kmc_base.specs.declared.entry.Entry.{Entry}
-use Rattle.kmc_core.proofs.Facts.{closes}
+use Rattle.kmc_core.proofs.Runs.{closes}
 use Rattle.kmc_core.proofs.unclosed.Unclosed.close.Goals as goal
 
 -- the next entries are there where they were listed

@@ -1,4 +1,4 @@
-use Rattle.kmc_core.proofs.Facts.{open-well}
+use Rattle.kmc_core.proofs.Runs.{open-well}
 use Rattle.kmc_core.proofs.unclosed.Unclosed.rescan.Goals as goal
 
 pub renew-requires-clause-deck : goal.renew-requires-clause-deck

@@ -4,10 +4,11 @@ use Rattle.std.specs.List.{AllByRecursion, Contains}
 use Rattle.std.specs.Prelude.{slice_get}
 use Rattle.kmc_base.specs.Entries.{IsRising}
 use Rattle.kmc_core.specs.Deck.{IsSoundProcess, dentates_in}
-use Rattle.kmc_core.specs.Offers.{IsOffer}
+use Rattle.kmc_core.specs.InstanceRange.{IsInRange}
 use Rattle.kmc_core.specs.PlainSystem.{process_of, sites_of, system_of}
 use Rattle.kmc_core.specs.declared.deck.PlainDeck.{PlainDeck}
 use Rattle.kmc_core.specs.declared.deck.PlainProcess.{PlainProcess}
+use Rattle.kmc_core.specs.declared.instance.Instance.{Instance}
 use Rattle.lattice_core.specs.Config.{state_at}
 use Rattle.lattice_core.specs.declared.state.State.{State}
 use Rattle.pattern_list.specs.Code.{IsCode}
@@ -15,7 +16,7 @@ use Rattle.pattern_list.specs.Listing.{is_listed_placement}
 
 -- the codes of what a deck offers
 abbrev pub codes_offered : PlainDeck → List State → List ℕ
-codes_offered deck states = map (λ (offer : ℕ × Option ℤ). offer.0) ((system_of deck).offers states)
+codes_offered deck states = map (λ (offer : Instance). offer.code) ((system_of deck).offers states)
 
 -- a code is that of an instance of a process of the deck
 pub record IsOffered (deck : PlainDeck) (states : List State) (code : ℕ) : Type 0 where
@@ -30,5 +31,5 @@ pub record IsOffered (deck : PlainDeck) (states : List State) (code : ℕ) : Typ
 -- the codes rise, all is in range, and each code is that of an instance
 pub record OffersWell (deck : PlainDeck) (states : List State) : Type 0 where
   pub rising : IsRising (codes_offered deck states)
-  pub in_range : AllByRecursion IsOffer ((system_of deck).offers states)
+  pub in_range : AllByRecursion IsInRange ((system_of deck).offers states)
   pub offered : (code : ℕ) → Contains (codes_offered deck states) code → IsOffered deck states code

@@ -6,7 +6,7 @@ use Rattle.std.proofs.lemmas.Option.{slice_get_within}
 use Rattle.std.specs.List.{All, AllPairs, Contains}
 use Rattle.std.specs.Prelude.{slice_get}
 use Rattle.kmc_core.proofs.Instances.{offers-well}
-use Rattle.kmc_core.proofs.Offered.{IsOffered, codes_offered}
+use Rattle.kmc_core.proofs.OfferedInstances.{IsOffered, codes_offered}
 use Rattle.kmc_core.specs.Deck.{IsSound, IsSoundProcess, dentates_in}
 use Rattle.kmc_core.specs.PlainSystem.{process_of, system_of}
 use Rattle.kmc_core.specs.Sides.{states_for, with_states}

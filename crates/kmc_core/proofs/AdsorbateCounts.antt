@@ -15,11 +15,11 @@ use Rattle.lattice_core.specs.Config.{IsWellFormed, class_of, state_at}
 use Rattle.lattice_core.specs.declared.state.State.{State}
 use Rattle.lattice_core.specs.declared.state.State.TheVariants.{Vacant, Holds}
 
--- the class of a site where dentate 1 of an adsorbate of a species stands
+-- the class of a site where dentate 1 of an adsorbate of a species is
 abbrev pub home_class : SpeciesId → ℕ
 home_class species = species.0 * 8 + 1
 
--- a dentate that stands on a site is one of eight
+-- a dentate on a site is one of eight
 abbrev pub HasDentate : State → Type 0
 HasDentate Vacant = Unit {0}
 HasDentate (Holds species dentate home) = (1 ≤ dentate) × (dentate ≤ 8)
@@ -38,7 +38,7 @@ count-homes species n (state ∷ states) has =
     (map class_of states)) (class-home species state has.0)
     ∙ count-homes species (n + cond (is_home_of species state) 1 0) states has.1
 
--- each dentate of a well-formed configuration is one of eight, where no species has more
+-- each dentate of a well-formed configuration is one of eight, if no species has more
 dentate-at : (dentates : ℕ → ℕ) (states : List State) → ((s : ℕ) → dentates s ≤ 8) → IsWellFormed dentates states
     → (k : ℕ) → HasDentate (state_at states k)
 dentate-at dentates states few formed k =
