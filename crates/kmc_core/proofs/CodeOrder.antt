@@ -1,5 +1,5 @@
 -- Instances whose codes differ, in rising order of these.
-use Rattle.std.proofs.Common.{◌≡◌, ◌≢◌, ℕ, suc, ◌<◌, ◌≤◌, true, false, cond, eqb, ℤ, List, [], ◌∷◌, ◌++◌, Option, map, get_or, length}
+use Rattle.std.proofs.Common.{◌≡◌, ◌≢◌, ℕ, suc, ◌<◌, ◌≤◌, true, false, cond, eqb, List, [], ◌∷◌, ◌++◌, map, get_or, length}
 use Rattle.std.proofs.Common.{Contains, refl, sym, ap, ◌∙◌, subst, arith, inl, inr}
 use Rattle.std.specs.Prelude.{nat_lt}
 use Rattle.std.specs.List.{AllByRecursion, sum_by}
@@ -76,7 +76,7 @@ rising-by_code [] apart = tt
 rising-by_code (offer ∷ offers) apart =
     rising-inserted offer (by_code offers) (rising-by_code offers apart.1)
     (all-by_code (λ (other : Instance). offer.code ≢ other.code) offers
-        (all-from_map (λ m. offer.code ≢ m) (λ (o : Instance). o.code) offers apart.0))
+    (all-from_map (λ m. offer.code ≢ m) (λ (o : Instance). o.code) offers apart.0))
 
 pub moved-by_code : (offers : List Instance) → IsPermutation offers (by_code offers)
 unfolding by_code
@@ -180,7 +180,7 @@ first-below : (offer : Instance) (offers : List Instance) → IsRising (codes (o
 first-below offer offers rising other c =
     All-contains (λ (o : Instance). offer.code < o.code) offers other
     (All-from_recursion (λ (o : Instance). offer.code < o.code) offers
-        (all-from_map (λ m. offer.code < m) (λ (o : Instance). o.code) offers rising.0)) c
+    (all-from_map (λ m. offer.code < m) (λ (o : Instance). o.code) offers rising.0)) c
 
 same-first : (x y : Instance) (xs ys : List Instance) → IsRising (codes (x ∷ xs))
     → IsRising (codes (y ∷ ys)) → Contains (y ∷ ys) x → Contains (x ∷ xs) y → x ≡ y

@@ -1,5 +1,5 @@
 -- The entries after an event, one instance after another.
-use Rattle.std.proofs.Common.{◌≡◌, ℕ, ◌<◌, ◌≤◌, ℤ, List, [], ◌∷◌, ◌++◌, Option, None, Some, map, get_or, refl, sym, ap, ◌∙◌, arith, IfSome, slice_get}
+use Rattle.std.proofs.Common.{◌≡◌, ℕ, ◌<◌, ◌≤◌, List, [], ◌∷◌, ◌++◌, Option, None, map, get_or, refl, sym, ap, ◌∙◌, arith, IfSome, slice_get}
 use Rattle.std.proofs.lemmas.List.{append_assoc, append-nil, map-append}
 use Rattle.std.specs.List.{AllByRecursion}
 use Rattle.kmc_base.proofs.EntryLists.{entry_at-behind}
@@ -72,7 +72,7 @@ renewed-part seed event time fired old rest from to done now all here later same
 -- what was added at the same event for the same instances
 pub added-alike : (event other : Renewal) (done now rest : List Entry) (offers others : List Instance) → event ≡ other → offers ≡ others →
     now ≡ done ++ renewed event.draws event.event event.time event.fired rest offers
-        → now ≡ done ++ renewed other.draws other.event other.time other.fired rest others
+    → now ≡ done ++ renewed other.draws other.event other.time other.fired rest others
 added-alike event other done now rest offers others same are more =
     more ∙ ap (λ (e : Renewal). done ++ renewed e.draws e.event e.time e.fired rest offers) same
     ∙ ap (λ os. done ++ renewed other.draws other.event other.time other.fired rest os) are

@@ -1,5 +1,5 @@
 -- What holds of the instances that a sound deck offers on a configuration.
-use Rattle.std.proofs.Common.{◌≡◌, ℕ, true, ℤ, List, Option, Some, map}
+use Rattle.std.proofs.Common.{◌≡◌, ℕ, true, List, Some, map}
 use Rattle.std.specs.List.{AllByRecursion, Contains}
 use Rattle.std.specs.Prelude.{slice_get}
 use Rattle.kmc_base.specs.Entries.{IsRising}

@@ -1,4 +1,4 @@
-use Rattle.std.proofs.Common.{◌≡◌, ℕ, ◌+◌, ◌-◌, ◌*◌, ◌^◌, ◌<◌, ◌≤◌, ◌++◌, ℤ, Option, refl, ap, subst, sym, ◌∙◌, arith}
+use Rattle.std.proofs.Common.{◌≡◌, ◌+◌, ◌-◌, ◌*◌, ◌^◌, ◌<◌, ◌≤◌, ◌++◌, refl, ap, subst, sym, ◌∙◌, arith}
 use Rattle.std.specs.List.{AllByRecursion, range_with_len}
 use Rattle.kmc_core.specs.Instances.{by_code, instances_at, instances_of}
 use Rattle.kmc_core.specs.Trajectory.{renewed}
