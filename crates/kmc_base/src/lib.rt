@@ -18,8 +18,6 @@ mod numbered;
 mod output;
 mod sequence;
 mod sink;
-#[cfg(test)]
-mod tests;
 
 pub use entry::{Entry, Firing};
 pub use error::{Failed, OutOfMemory};

@@ -1,2 +1,12 @@
-//! Tests of the crates of a whole run: folders and screens in memory, and the program from files to outputs, through their public calls.
+//! Tests of the crates of a whole run: folders and screens in memory, and the program from files to outputs, through
+//! their public calls.
 #![tactic(auto)]
+
+#[cfg(test)]
+mod errors_as_text;
+#[cfg(test)]
+mod folders_in_memory;
+#[cfg(test)]
+mod screens_in_memory;
+#[cfg(test)]
+mod sequences;

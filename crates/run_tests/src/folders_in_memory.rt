@@ -1,5 +1,5 @@
-use super::*;
-use std::alloc::{AllocError, AllocFailed, Global};
+use kmc_base::{Failed, FaultCounts, FileId, Folder, Gate, LoadFault, MemoryFolder, OpenGate, OutId};
+use std::alloc::Global;
 use std::test::Fail;
 
 /// The bytes that are told, or a text that no test writes.
@@ -39,8 +39,7 @@ fn folder_loads(rt: HostRuntime) -> Result<(), Fail> {
     Ok(())
 }
 
-/// A folder without files, with room for so many bytes of each output. Its second begin and its
-/// second append fail.
+/// A folder without files, with room for so many bytes of each output. Its second begin and its second append fail.
 fn folder_with_room(alloc: Global, bytes: usize) -> Result<MemoryFolder, Fail> {
     let begins = Vec::from_array(alloc, [2])?;
     let appends = Vec::from_array(alloc, [2])?;
@@ -58,8 +57,8 @@ fn write(folder: &mut MemoryFolder, out: OutId, piece: Option<&str>) -> Result<(
 
 #[test]
 fn folder_writes(rt: HostRuntime) -> Result<(), Fail> {
-    // What is added, or None for a begin; whether it is done; the output after it. Past its room
-    // the folder stops telling, for good.
+    // What is added, or None for a begin; whether it succeeds; the output after it. Past its room the folder stops
+    // telling, for good.
     const WRITES: [(OutId, Option<&str>, bool, &str); 9] = [
         (OutId::History, None, true, ""),
         (OutId::History, Some("abc"), true, "abc"),
@@ -81,25 +80,7 @@ fn folder_writes(rt: HostRuntime) -> Result<(), Fail> {
 }
 
 #[test]
-fn sink_takes(rt: HostRuntime) -> Result<(), Fail> {
-    // The second put fails. Past its room it stops telling.
-    const PUTS: [(&str, bool, &str); 4] = [
-        ("ab", true, "ab"),
-        ("x", false, "ab"),
-        ("cd", true, "abcd"),
-        ("e", true, "not told"),
-    ];
-    let failing = Vec::from_array(rt.alloc(), [2])?;
-    let mut sink = MemorySink::new(rt.alloc(), 4, failing).map_err(|refused| refused.1)?;
-    for (piece, done, text) in PUTS {
-        assert_eq!(rt; sink.put(piece.as_bytes()).is_ok(), done);
-        assert_eq!(rt; told(sink.text()), text.as_bytes());
-    }
-    Ok(())
-}
-
-#[test]
-fn counts_faults(rt: HostRuntime) {
+fn faults_are_counted(rt: HostRuntime) {
     let mut counts = FaultCounts::none();
     counts.read_failed(FileId::Lattice);
     counts.write_failed(OutId::Specnum);
@@ -108,25 +89,7 @@ fn counts_faults(rt: HostRuntime) {
 }
 
 #[test]
-fn items_keep_their_order(rt: HostRuntime) -> Result<(), Fail> {
-    let items = Sequence::new(Vec::from_array(rt.alloc(), [7, 8])?);
-    assert_eq!(rt; (items.len(), items.is_empty()), (2, false));
-    assert_eq!(rt; items.as_slice(), [7, 8].as_slice());
-    assert_eq!(rt; items.into_vec().as_slice(), [7, 8].as_slice());
-    Ok(())
-}
-
-#[test]
 fn an_open_gate_holds_nobody(_rt: HostRuntime) {
     OpenGate.after_claim(0, 1);
     OpenGate.after_put(0, 1);
-}
-
-#[test]
-fn errors_have_a_text(rt: HostRuntime) -> Result<(), Fail> {
-    let refused = OutOfMemory::from(AllocFailed { value: 3u8 });
-    assert_eq!(rt; refused, OutOfMemory::from(AllocError));
-    let text = format!(in rt.alloc(); "{refused}, {}", Failed)?;
-    assert_eq!(rt; text.as_str(), "out of memory, failed");
-    Ok(())
 }
