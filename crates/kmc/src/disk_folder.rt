@@ -7,8 +7,8 @@ use std::fs::{File, OpenOptions};
 use std::io::ErrorKind;
 use std::rt::Files;
 
-/// The working directory as a folder. It counts its faults from 0, up to 2^64 - 1, and tells nothing
-/// of what its files hold.
+/// The working directory as a folder. It counts its faults from 0, up to 2^64 - 1, and does not
+/// report what its files hold.
 #[derive(Drop)]
 pub struct DiskFolder<R: Files> {
     runtime: R,

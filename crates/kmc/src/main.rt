@@ -1,8 +1,8 @@
 //! The program `kmc`: a run over the working directory and the standard output.
 //!
 //! `DiskFolder` and `ScreenSink` keep the promises of the folder and the screen that a run is
-//! given. What the system's files and terminal hold is trusted, and told by neither. The run itself
-//! is `run_program` of `kmc_run`.
+//! given. What the system's files and terminal hold is trusted, and reported by neither. The run
+//! itself is `run_program` of `kmc_run`.
 #![tactic(auto)]
 
 mod disk_folder;
@@ -26,7 +26,7 @@ fn words(rt: &(impl Env + AllocGlobal)) -> io::Result<Vec<String>> {
     Ok(words)
 }
 
-/// The status where the words could not be read: one of them is no text, or there was no memory.
+/// The status where the words could not be read: one of them is not valid text, or memory ran out.
 fn without_words(error: &io::Error) -> Status {
     if error.kind() == ErrorKind::OutOfMemory {
         Status::OutOfMemory

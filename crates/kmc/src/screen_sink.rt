@@ -4,7 +4,7 @@ use crate::transfer::write_whole;
 use kmc_base::{Failed, Sink};
 use std::io;
 
-/// The standard output as a screen. It counts its faults from 0, up to 2^64 - 1, and tells nothing of
+/// The standard output as a screen. It counts its faults from 0, up to 2^64 - 1, and does not report
 /// what it has taken.
 #[derive(Drop)]
 pub struct ScreenSink<R> {

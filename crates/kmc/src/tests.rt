@@ -1,8 +1,10 @@
 use super::*;
 use crate::transfer::{read_whole, write_whole};
 use kmc_base::{Failed, FileId, Folder, LoadFault, OutId, Sink};
+use std::alloc::Global;
 use std::fs;
 use std::io::{Read, Write};
+use std::process::Abort;
 use std::rt::Files;
 use std::test::Fail;
 
@@ -20,11 +22,42 @@ const OUTPUTS: [(OutId, &str); 3] = [
     (OutId::Specnum, "specnum_output.txt"),
 ];
 
-/// Begins all outputs, and then adds to each in turn, twice: its own name, and a point.
-fn write_in_turn<R: Files>(folder: &mut DiskFolder<R>) -> Result<(), Failed> {
-    for (out, _) in OUTPUTS {
-        folder.begin(out)?;
+/// Looks at a load of an input, of at most so many bytes.
+fn loads<R: Files + Abort>(
+    rt: &R,
+    alloc: Global,
+    file: FileId,
+    max: usize,
+    expected: Result<&str, LoadFault>,
+) -> Result<(), Fail> {
+    match (DiskFolder::new(rt).load(alloc, file, max), expected) {
+        (Ok(bytes), Ok(text)) => assert_eq!(rt; bytes.as_slice(), text.as_bytes()),
+        (loaded, expected) => assert_eq!(rt; loaded.err(), expected.err()),
     }
+    Ok(())
+}
+
+#[test]
+fn inputs_are_read_from_the_working_directory(rt: HostRuntime) -> Result<(), Fail> {
+    // Each file holds its own name.
+    for (file, name) in INPUTS {
+        loads(&rt, rt.alloc(), file, 100, Err(LoadFault::Absent))?;
+        fs::write(&rt, name, name)?;
+        loads(&rt, rt.alloc(), file, name.len(), Ok(name))?;
+        loads(
+            &rt,
+            rt.alloc(),
+            file,
+            name.len().saturating_sub(1),
+            Err(LoadFault::TooLong),
+        )?;
+        fs::remove_file(&rt, name)?;
+    }
+    Ok(())
+}
+
+/// Adds its own name to each output, and then a point to each.
+fn append_in_turn<R: Files>(folder: &mut DiskFolder<R>) -> Result<(), Failed> {
     for (out, name) in OUTPUTS {
         folder.append(out, name.as_bytes())?;
     }
@@ -34,46 +67,30 @@ fn write_in_turn<R: Files>(folder: &mut DiskFolder<R>) -> Result<(), Failed> {
     Ok(())
 }
 
-#[test]
-fn folder_reads_and_writes_the_working_directory(rt: HostRuntime) -> Result<(), Fail> {
-    let mut folder = DiskFolder::new(&rt);
-
-    // Each file holds its own name.
-    for (file, name) in INPUTS {
-        assert_eq!(rt;
-            folder.load(rt.alloc(), file, 100),
-            Err(LoadFault::Absent),
-            "{name}"
-        );
-        fs::write(&rt, name, name)?;
-        let loaded = folder.load(rt.alloc(), file, name.len())?;
-        assert_eq!(rt; loaded.as_slice(), name.as_bytes());
-        assert_eq!(rt;
-            folder.load(rt.alloc(), file, name.len().saturating_sub(1)),
-            Err(LoadFault::TooLong),
-            "{name}"
-        );
-        fs::remove_file(&rt, name)?;
-    }
-
-    for (out, name) in OUTPUTS {
-        folder.append(out, name.as_bytes())?;
-        folder.begin(out)?;
-        folder.append(out, b"one ")?;
-        folder.append(out, b"")?;
-        folder.append(out, b"two")?;
-        DiskFolder::new(&rt).append(out, b" three")?;
-        assert_eq!(rt; fs::read_to_string(&rt, name)?.as_str(), "one two three");
-        fs::remove_file(&rt, name)?;
-    }
-
-    write_in_turn(&mut folder)?;
+/// Looks at what each output holds: its name, the point and what follows.
+fn holds<R: Files + AllocGlobal + Abort>(rt: &R, rest: &str) -> Result<(), Fail> {
     for (_, name) in OUTPUTS {
-        let text = format!(in rt.alloc(); "{name}.")?;
-        assert_eq!(rt; fs::read_to_string(&rt, name)?, text);
-        fs::remove_file(&rt, name)?;
+        let text = format!(in rt.alloc(); "{name}.{rest}")?;
+        assert_eq!(rt; fs::read_to_string(rt, name)?, text);
     }
     Ok(())
+}
+
+#[test]
+fn outputs_are_written_to_the_working_directory(rt: HostRuntime) -> Result<(), Fail> {
+    // The outputs are there only from the first append on. A begin empties them, and a new folder adds at their ends.
+    append_in_turn(&mut DiskFolder::new(&rt))?;
+    holds(&rt, "")?;
+    let mut folder = DiskFolder::new(&rt);
+    for (out, _) in OUTPUTS {
+        folder.begin(out)?;
+    }
+    append_in_turn(&mut folder)?;
+    holds(&rt, "")?;
+    for (out, _) in OUTPUTS {
+        DiskFolder::new(&rt).append(out, b" more")?;
+    }
+    holds(&rt, " more")
 }
 
 #[test]
@@ -138,25 +155,25 @@ impl Write for Slow {
     }
 }
 
+/// Bytes of which the call of this number fails.
+fn slow(bytes: Vec<u8>, failing: u64) -> Slow {
+    Slow {
+        bytes,
+        done: 0,
+        calls: 0,
+        failing,
+    }
+}
+
 #[test]
 fn goes_on_after_an_interruption(rt: HostRuntime) -> Result<(), Fail> {
     for (failing, is_read, written) in [(0, true, "abc"), (4, false, "a")] {
-        let mut from = Slow {
-            bytes: b"abc".to_vec(rt.alloc())?,
-            done: 0,
-            calls: 0,
-            failing,
-        };
+        let mut from = slow(b"abc".to_vec(rt.alloc())?, failing);
         match read_whole(rt.alloc(), &mut from, 3) {
             Ok(bytes) => assert_eq!(rt; (bytes.as_slice(), is_read), (b"abc".as_slice(), true)),
             Err(fault) => assert_eq!(rt; (fault, is_read), (LoadFault::Failed, false)),
         }
-        let mut to = Slow {
-            bytes: Vec::new(rt.alloc()),
-            done: 0,
-            calls: 0,
-            failing,
-        };
+        let mut to = slow(Vec::new(rt.alloc()), failing);
         assert_eq!(rt; write_whole(&mut to, b"abc").is_ok(), is_read);
         assert_eq!(rt; to.bytes.as_slice(), written.as_bytes());
     }

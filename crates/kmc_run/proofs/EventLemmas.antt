@@ -67,10 +67,10 @@ whole deck first event events all =
     ap (λ es. flat_map (writes_at deck) events ++ flat_map (writes_at deck) es) (sym (first-later deck (deck.plan.max_steps - event) event))
     ∙ (sym (flat-append (writes_at deck) events (events_from deck event)) ∙ ap (flat_map (writes_at deck)) all)
 
-one_more : (deck : PlainDeck) (event : ℕ) (events : List ℕ) (x y z : Option Outs)
+one_more_event : (deck : PlainDeck) (event : ℕ) (events : List ℕ) (x y z : Option Outs)
     → Done (flat_map (writes_at deck) events) x y → Done (writes_at deck event) y z →
     Done (flat_map (writes_at deck) (events ++ event ∷ [])) x z
-one_more deck event events x y z p q =
+one_more_event deck event events x y z p q =
     subst (λ (ws : List Write). Done ws x z)
     (ap (λ ws. flat_map (writes_at deck) events ++ ws) (sym (append-nil (writes_at deck event)))
     ∙ sym (flat-append (writes_at deck) events (event ∷ [])))
@@ -82,7 +82,7 @@ pub passed_one : (deck : PlainDeck) (first event : ℕ) (x y z : Option Outs) �
 passed_one deck first event x y z p q is lt = record {
   events = p.events ++ event ∷ [];
   all = append_assoc p.events (event ∷ []) (events_from deck (event + 1)) ∙ (ap (λ es. p.events ++ es) (sym (next-events deck event is lt)) ∙ p.all);
-  done = one_more deck event p.events x y z p.done q;
+  done = one_more_event deck event p.events x y z p.done q;
 }
 
 -- the last event is passed: all is written
@@ -92,7 +92,7 @@ pub passed_last : (deck : PlainDeck) (first event : ℕ) (stop : Stop) (x y z : 
 passed_last deck first event stop x y z p q is =
     subst (λ (es : List ℕ). Done (flat_map (writes_at deck) es) x z)
     (ap (λ es. p.events ++ es) (sym (last-event deck event stop is)) ∙ p.all)
-    (one_more deck event p.events x y z p.done q)
+    (one_more_event deck event p.events x y z p.done q)
 
 pub passed_end : (deck : PlainDeck) (first event : ℕ) (stop : Stop) (x y : Option Outs) → Passed deck first event x y
     → stop_of deck event ≡ Some stop →
@@ -109,7 +109,7 @@ passed_fails deck first event fault x y z p q =
     (done_ended (flat_map (writes_at deck) p.events) (writes_at deck event ++ others) fault x y z p.done
     (ended_more (writes_at deck event) others fault y z q))
 
--- there was no memory for the next event
+-- memory ran out at the next event
 pub passed_stops : (deck : PlainDeck) (first event : ℕ) (x y z : Option Outs) → Passed deck first event x y → Done (writes_at deck event) y z →
     Ended (flat_map (writes_at deck) (events_from deck first)) OutOfMemory x z
 passed_stops deck first event x y z p q =

@@ -1,8 +1,9 @@
+pub mod Chains
 pub mod CountLemmas
 pub mod DriveLemmas
 pub mod EventLemmas
 pub mod LoadLemmas
 pub mod PlainProcesses
-pub mod ReadLemmas
 pub mod SampleLemmas
+pub mod SoundDecks
 pub mod WriteLemmas

@@ -1,4 +1,4 @@
--- the first of several loads that fails
+-- The first of several loads that fails.
 use Rattle.std.proofs.Common.{◌≡◌, ◌∙◌, ap, sym, false, List, ◌∷◌, Option, None, Some, IfSome, if◌then◌else◌}
 use Rattle.std.specs.Option.{option_map}
 use Rattle.kmc_base.specs.Numbered.{Numbered, next_fails, one_call_more}

@@ -3,6 +3,7 @@ use Rattle.std.proofs.Common.{◌≡◌, zero, suc, ◌≤◌, List, [], ◌∷�
 use Rattle.std.specs.List.{All, AllByRecursion}
 use Rattle.kmc_core.specs.Deck.{IsSoundProcess, IsSoundSide, IsWholeWant, dentates_in}
 use Rattle.kmc_base.specs.declared.ids.SpeciesId.{SpeciesId}
+use Rattle.kmc_base.specs.declared.limits.TheConstants.{MAX_DENTATES}
 use Rattle.pattern_types.specs.Edges.{edge_set, are_adjacent}
 use Rattle.pattern_types.specs.Parts.{PatternParts, parts}
 use Rattle.pattern_types.specs.Soundness.{IsSound as IsPattern}
@@ -42,7 +43,7 @@ all_one P x p (suc k) d within = absurd (omega arith)
 
 -- the numbers of dentates of a book are in range, and there is one for each surface species
 pub record HasDentates (book : Book) : Type 0 where
-  pub range : All (λ d. (1 ≤ d) × (d ≤ 8)) book.dentates
+  pub range : All (λ d. (1 ≤ d) × (d ≤ MAX_DENTATES)) book.dentates
   pub one_each : length book.dentates ≡ length book.surface
 
 whole_want : (book : Book) → HasDentates book → (state : Option SpeciesId) → IsPlainState book state

@@ -4,7 +4,7 @@ use Rattle.std.proofs.lemmas.List.{append_assoc}
 use Rattle.kmc_base.specs.Outs.{Outs}
 use Rattle.kmc_base.specs.Told.{Tells}
 use Rattle.kmc_base.specs.declared.ids.OutId.{OutId}
-use Rattle.kmc_run.specs.Writes.{Write, Append, Done, Ended, MayWrite, Stops, all_written, out_of, written}
+use Rattle.kmc_run.specs.Writes.{Write, Append, Done, Ended, MayWrite, Stops, all_written, target_of, written}
 use Rattle.kmc_run.specs.declared.drive_fault.DriveFault.{DriveFault}
 use Rattle.kmc_run.specs.declared.drive_fault.DriveFault.TheVariants.{WriteFault, OutOfMemory}
 
@@ -75,7 +75,7 @@ ended_more a b fault None (Some z) q = absurd q
 ended_more a b fault (Some x) (Some z) q = stops_before a b fault x z q
 
 -- the one write failed
-pub fails_one : (w : Write) (x y : Option Outs) → Tells x y (MayWrite w) → Ended (w ∷ []) (WriteFault (out_of w)) x y
+pub fails_one : (w : Write) (x y : Option Outs) → Tells x y (MayWrite w) → Ended (w ∷ []) (WriteFault (target_of w)) x y
 fails_one w x None p = tt
 fails_one w None (Some y) p = absurd p
 fails_one w (Some x) (Some y) p = record { done = []; next = w; others = []; all = refl; of = refl; left = p }

@@ -1,6 +1,7 @@
--- The deck that four texts stand for, or its first fault. A file is "built" where kmc can run what it asks for today.
+-- The deck that four texts stand for, or its first fault. A file is built if kmc takes it today.
 use Rattle.std.specs.Prelude.{◌≡◌, ℕ, ◌*◌, ◌^◌, ◌&&◌, Bool, true, false, not, List, [], ◌∷◌, map, Option, None, Some, Result, Ok, Err}
 use Rattle.std.specs.Prelude.{if◌then◌else◌, is_none, length, pos}
+use Rattle.deck_shape.specs.Blocks.{BlockLines}
 use Rattle.deck_shape.specs.LineFaults.{block_of_text}
 use Rattle.deck_shape.specs.Names.{NameWord}
 use Rattle.deck_shape.specs.declared.fault.DeckFault.{DeckFault}
@@ -42,7 +43,7 @@ and_then (Ok x) next = next x
 abbrev pub file_fault : FileId → ℕ → Fault
 file_fault file kind = record { file = file; line = 0; kind = kind }
 
--- the fault of a file that is not of a form that is built
+-- the fault of a file that is not built
 abbrev pub not_built : FileId → Fault
 not_built file = file_fault file NOT_BUILT
 
@@ -52,17 +53,24 @@ bytes_in file Absent = Err (file_fault file FILE_ABSENT)
 bytes_in file TooLong = Err (file_fault file FILE_TOO_LONG)
 bytes_in file (Bytes bytes) = Ok bytes
 
+-- the bytes of two files, or the fault of the first that is not there or too long
+abbrev pub both_in : FileId → Text → FileId → Text → Result (List ℕ × List ℕ) Fault
+both_in first first_text second second_text =
+    and_then (bytes_in first first_text) (λ first_bytes.
+    and_then (bytes_in second second_text) (λ second_bytes.
+    Ok (first_bytes, second_bytes)))
+
 -- what is read of a file, or its fault, which is at a line and of a kind
 abbrev pub in_file : {X : Type 0} → FileId → Result X (ℕ × ℕ) → Result X Fault
 in_file file (Err fault) = Err (record { file = file; line = fault.0; kind = fault.1 })
 in_file file (Ok x) = Ok x
 
--- what is found in a file that is of a form that is built
+-- what is found in a file that is built
 abbrev pub built_in : {X : Type 0} → FileId → Option X → Result X Fault
 built_in file None = Err (not_built file)
 built_in file (Some x) = Ok x
 
--- nothing, where a file is of a form that is built
+-- nothing, where a file is built
 abbrev pub passes : Bool → FileId → Result (Unit {0}) Fault
 passes built file = if built then Ok tt else Err (not_built file)
 
@@ -75,16 +83,25 @@ unless_fault (Some fault) = Err fault
 abbrev pub types_in : LatticeValues → Result (Unit {0}) Fault
 types_in lattice = in_file Lattice (unless_fault (unknown_type lattice.type_names lattice.type_words))
 
--- The values of a simulation file and a lattice file, or the first fault: the faults of form of both come first, then
--- those of their values, and then a type word of the lattice that is no type.
-unfoldable pub values_in : List ℕ → List ℕ → Result (SimValues × LatticeValues) Fault
-values_in simulation lattice =
+-- the lines of a simulation file and a lattice file, or the first fault of form
+abbrev pub lines_in : List ℕ → List ℕ → Result (BlockLines × BlockLines) Fault
+lines_in simulation lattice =
     and_then (in_file Simulation (block_of_text SimulationBlock simulation)) (λ simulation_lines.
     and_then (in_file Lattice (block_of_text LatticeBlock lattice)) (λ lattice_lines.
+    Ok (simulation_lines, lattice_lines)))
+
+-- the values of their lines, or the first fault of a value; a type word of the lattice that is no type comes last
+abbrev pub values_of_lines : BlockLines → BlockLines → Result (SimValues × LatticeValues) Fault
+values_of_lines simulation_lines lattice_lines =
     and_then (in_file Simulation (part_of simulation_lines)) (λ simulation_values.
     and_then (in_file Lattice (lattice_part_of lattice_lines)) (λ lattice_values.
     and_then (types_in lattice_values) (λ _.
-    Ok (simulation_values, lattice_values))))))
+    Ok (simulation_values, lattice_values))))
+
+-- The values of a simulation file and a lattice file, or the first fault: the faults of form of both come before those
+-- of their values.
+unfoldable pub values_in : List ℕ → List ℕ → Result (SimValues × LatticeValues) Fault
+values_in simulation lattice = and_then (lines_in simulation lattice) (λ lines. values_of_lines lines.0 lines.1)
 
 -- an output is never sampled
 abbrev pub is_off : Sampling → Bool
@@ -143,32 +160,40 @@ plain_deck values lattice steps = record {
   processes = map plain_process steps;
 }
 
+-- the deck of the values of a simulation file, a lattice and the text of a mechanism file, which is read over the
+-- surface species; or the fault of a mechanism file that is not built
+abbrev pub deck_with_mechanism : SimValues → SiteLattice → List ℕ → Result PlainDeck Fault
+deck_with_mechanism values lattice mechanism =
+    and_then (built_in Mechanism (steps_of (book_of values) mechanism)) (λ steps.
+    Ok (plain_deck values lattice steps))
+
 -- The deck of the values of a simulation file, a lattice and the texts of the two other files, or the first file of
--- the three that is not of a form that is built. The mechanism is read over the surface species.
+-- the three that is not built.
 unfoldable pub deck_with : SimValues → SiteLattice → List ℕ → List ℕ → Result PlainDeck Fault
 deck_with values lattice energetics mechanism =
     and_then (passes (is_built values) Simulation) (λ _.
     and_then (passes (is_plain_energetics energetics) Energetics) (λ _.
-    and_then (built_in Mechanism (steps_of (book_of values) mechanism)) (λ steps.
-    Ok (plain_deck values lattice steps))))
+    deck_with_mechanism values lattice mechanism))
 
 -- The deck of four texts, or its first fault: first, file by file, whether a text is there and not too long; then the
 -- simulation file and the lattice file; and then what is not built.
 unfoldable pub deck_of : Texts → Result PlainDeck Fault
 deck_of texts =
-    and_then (bytes_in Simulation texts.simulation) (λ simulation.
-    and_then (bytes_in Lattice texts.lattice) (λ lattice.
-    and_then (bytes_in Energetics texts.energetics) (λ energetics.
-    and_then (bytes_in Mechanism texts.mechanism) (λ mechanism.
-    and_then (values_in simulation lattice) (λ values.
-    deck_with values.0 values.1.lattice energetics mechanism)))))
+    and_then (both_in Simulation texts.simulation Lattice texts.lattice) (λ firsts.
+    and_then (both_in Energetics texts.energetics Mechanism texts.mechanism) (λ others.
+    and_then (values_in firsts.0 firsts.1) (λ values.
+    deck_with values.0 values.1.lattice others.0 others.1)))
 
 -- the deck of the files of a folder
 abbrev pub deck_of_files : Files → Result PlainDeck Fault
 deck_of_files files = deck_of (texts_of files)
 
--- What a reader gave, seen by a view, is what a definition gives: a value, or its fault. Want of memory says nothing.
+-- A reading ended with a fault: it is the one that a definition gives. Out of memory says nothing of the files.
+abbrev pub Ends : {Y : Type 0} → DeckFault → Result Y Fault → Type 0
+Ends (Faulty fault) given = given ≡ Err fault
+Ends OutOfMemory given = Unit {0}
+
+-- What a reader gave, seen by a view, is what a definition gives: a value, or its fault.
 abbrev pub Reads : {X Y : Type 0} → (X → Y) → Result X DeckFault → Result Y Fault → Type 0
 Reads view (Ok x) given = given ≡ Ok (view x)
-Reads view (Err (Faulty fault)) given = given ≡ Err fault
-Reads view (Err OutOfMemory) given = Unit {0}
+Reads view (Err fault) given = Ends fault given

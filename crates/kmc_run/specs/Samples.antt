@@ -67,5 +67,5 @@ writes_before deck =
     option_map_or (λ period. Begin Specnum ∷ Append Specnum (specnum_head deck.book.surface deck.book.gas) ∷ []) (event_period deck.plan.specnum) []
 
 -- all the writes of a run
-abbrev pub writes_of : PlainDeck → List Write
-writes_of deck = writes_before deck ++ flat_map (writes_at deck) (events_from deck 0)
+abbrev pub run_writes : PlainDeck → List Write
+run_writes deck = writes_before deck ++ flat_map (writes_at deck) (events_from deck 0)

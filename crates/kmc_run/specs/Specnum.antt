@@ -21,7 +21,7 @@ unfoldable pub specnum_head : List (List ℕ) → List (List ℕ) → List ℕ
 specnum_head surface gas =
     codes "specnum 1" ++ 10 ∷ codes "columns sample event time temperature energy" ++ next_names surface ++ next_names gas ++ 10 ∷ []
 
--- a sample's line: its number, the event, the time in as, the temperature in mK, the energy in neV (0 here), and the
+-- a sample's line: its number, the event, the time in attoseconds, the temperature in mK, the energy in neV (0 here), and the
 -- numbers of adsorbates and of gas molecules
 unfoldable pub specnum_line : ℕ → ℕ → ℕ → ℕ → List ℕ → List ℕ → List ℕ
 specnum_line sample event time temperature surface gas =

@@ -3,18 +3,15 @@ use Rattle.std.specs.Prelude.{ℕ, ◌≤◌, List, Option, None, Some, if◌the
 use Rattle.kmc_base.specs.Files.{Files, file_of}
 use Rattle.kmc_base.specs.declared.ids.FileId.{FileId}
 use Rattle.kmc_base.specs.declared.ids.FileId.TheVariants.{Simulation, Lattice, Energetics, Mechanism}
+use Rattle.kmc_base.specs.declared.limits.TheConstants.{MAX_FILE_BYTES}
 use Rattle.kmc_run.specs.declared.texts.Text.{Text}
 use Rattle.kmc_run.specs.declared.texts.Text.TheVariants.{Absent, TooLong, Bytes}
 use Rattle.kmc_run.specs.declared.texts.Texts.{Texts}
 
--- the greatest number of bytes of an input file
-abbrev pub most_bytes : ℕ
-most_bytes = 16777216
-
 -- the text that a file has by its bytes, where there is a file
 abbrev pub text_with : Option (List ℕ) → Text
 text_with None = Absent
-text_with (Some bytes) = if nat_le (length bytes) most_bytes then Bytes bytes else TooLong
+text_with (Some bytes) = if nat_le (length bytes) MAX_FILE_BYTES then Bytes bytes else TooLong
 
 -- the text of a file of a folder
 abbrev pub text_of : Files → FileId → Text
@@ -33,4 +30,4 @@ texts_of files = record {
 abbrev pub IsShort : Text → Type 0
 IsShort Absent = Unit {0}
 IsShort TooLong = Unit {0}
-IsShort (Bytes bytes) = length bytes ≤ most_bytes
+IsShort (Bytes bytes) = length bytes ≤ MAX_FILE_BYTES

@@ -12,9 +12,9 @@ pub data Write : Type 0 where
   Append : (out : OutId) (piece : List ℕ) → Write
 
 -- the output that a write is of
-abbrev pub out_of : Write → OutId
-out_of (Begin out) = out
-out_of (Append out piece) = out
+abbrev pub target_of : Write → OutId
+target_of (Begin out) = out
+target_of (Append out piece) = out
 
 -- the outputs after a write
 abbrev pub written : Write → Outs → Outs
@@ -37,7 +37,7 @@ pub record FailsAt (writes : List Write) (out : OutId) (then now : Outs) : Type 
   pub next : Write
   pub others : List Write
   pub all : writes ≡ done ++ next ∷ others
-  pub of : out_of next ≡ out
+  pub of : target_of next ≡ out
   pub left : MayWrite next (all_written done then) now
 
 -- some of the writes were done in order, and no other

@@ -4,7 +4,7 @@ ghost use Rattle.kmc_base.specs.Faults.{OnlyFailed, SameCounts};
 ghost use Rattle.kmc_core.specs.Deck.{IsSound};
 ghost use Rattle.kmc_core.specs.PlainSystem.{trajectory_of};
 ghost use Rattle.kmc_core.specs.Run.{stop_of};
-ghost use Rattle.kmc_run.specs.Samples.{IsWritten, adsorbates, events_from, writes_at, writes_of};
+ghost use Rattle.kmc_run.specs.Samples.{IsWritten, adsorbates, events_from, writes_at, run_writes};
 ghost use Rattle.kmc_run.specs.Summaries.{IsSummary};
 ghost use Rattle.kmc_run.specs.Writes.{Done, Ended, failed_output};
 
@@ -12,11 +12,14 @@ use crate::counting::adsorbates;
 use crate::drive_fault::DriveFault;
 use crate::summary::Summary;
 use crate::writing;
-use kmc_base::{Folder, Gate, Sequence, OutOfMemory};
+use kmc_base::{Folder, Gate, OutOfMemory, Sequence};
 use kmc_core::{Closed, Fired, PlainDeck, Stop, Unclosed};
 use std::alloc::Global;
 use std::marker::Sync;
 use std::thread::Threads;
+
+/// The greatest number of workers of a run.
+pub const MAX_WORKERS: u32 = 64;
 
 /// The run at an event that has fired, with its instances listed.
 fn close(alloc: Global, mut next: Unclosed) -> Result<Closed, OutOfMemory>
@@ -77,12 +80,14 @@ fn summary_of(alloc: Global, last: &Closed, stop: Stop) -> Result<Summary, OutOf
 
 /// Runs a sound deck to its end, and writes its outputs. Its plan is one whose samples are all written.
 ///
-/// `WriteFault` comes only where the folder failed to begin that output or to add to it. After it and
-/// after `OutOfMemory` the outputs are what the writes before it make of them; of a piece that failed
-/// a front may be there, and an output that failed to begin may be empty.
+/// # Errors
 ///
-/// The number of workers, `spread`, the least number of anchors of an event at which they share its
-/// work, and the gate, which is called between their steps, are there for threads. No thread is started
+/// `WriteFault` comes only where the folder failed to begin that output or to add to it. After it and
+/// after `OutOfMemory` the outputs are what the writes before it make of them. If a piece failed, the
+/// first of its bytes may be there; an output that failed to begin may be empty.
+///
+/// The number of workers is for threads, and so are `spread`, the least number of anchors of an event at
+/// which they share its work, and the gate, which is called between their steps. No thread is started
 /// yet: the run and its outputs are the same for all of them.
 pub fn drive<R: Threads + Sync, F: Folder, G: Gate + Sync>(
     _rt: &R,
@@ -96,11 +101,11 @@ pub fn drive<R: Threads + Sync, F: Folder, G: Gate + Sync>(
     requires deck { IsSound deck }
     requires written { IsWritten deck.plan }
     requires some_workers { 1 ≤ _workers }
-    requires few_workers { _workers ≤ 64 }
+    requires few_workers { _workers ≤ MAX_WORKERS }
     requires spread { 1 ≤ _spread }
     ensures summary { IfOk result (IsSummary deck) }
-    ensures ok { OnOk result (Done (writes_of deck) (F.outs folder.old) (F.outs folder.new)) }
-    ensures err { IfErr result (λ fault. Ended (writes_of deck) fault (F.outs folder.old) (F.outs folder.new)) }
+    ensures ok { OnOk result (Done (run_writes deck) (F.outs folder.old) (F.outs folder.new)) }
+    ensures err { IfErr result (λ fault. Ended (run_writes deck) fault (F.outs folder.old) (F.outs folder.new)) }
     ensures cause { IfErr result (λ fault. OnlyFailed (failed_output fault) (F.write_faults folder.old) (F.write_faults folder.new)) }
     ensures no_fault { OnOk result (SameCounts (F.write_faults folder.old) (F.write_faults folder.new)) }
     ensures reads { SameCounts (F.read_faults folder.old) (F.read_faults folder.new) }

@@ -7,11 +7,8 @@ ghost use Rattle.kmc_run.specs.Texts.{IsShort, text_of, texts_of};
 
 use crate::status::Status;
 use crate::texts::{Text, Texts};
-use kmc_base::{FileId, Folder, Sequence, LoadFault};
+use kmc_base::{FileId, Folder, LoadFault, MAX_FILE_BYTES, Sequence};
 use std::alloc::Global;
-
-/// The greatest number of bytes of an input file.
-const MAX_BYTES: usize = 16_777_216;
 
 /// The text of an input file.
 fn load_text<F: Folder>(alloc: Global, folder: &mut F, file: FileId) -> Result<Text, Status>
@@ -28,8 +25,8 @@ fn load_text<F: Folder>(alloc: Global, folder: &mut F, file: FileId) -> Result<T
     ensures passed { IfOk result (λ _. IfSome (F.loads folder.old) (λ calls. next_fails calls ≡ false)) }
     ensures loads { F.loads folder.new ≡ option_map one_call_more (F.loads folder.old) }
 {
-    match folder.load(alloc, file, MAX_BYTES) {
-        Ok(bytes) if bytes.len() <= MAX_BYTES => Ok(Text::Bytes(Sequence::new(bytes))),
+    match folder.load(alloc, file, MAX_FILE_BYTES) {
+        Ok(bytes) if bytes.len() <= MAX_FILE_BYTES => Ok(Text::Bytes(Sequence::new(bytes))),
         Ok(_) | Err(LoadFault::TooLong) => Ok(Text::TooLong),
         Err(LoadFault::Absent) => Ok(Text::Absent),
         Err(LoadFault::Failed) => Err(Status::ReadFault(file)),

@@ -1,11 +1,11 @@
 ghost use Rattle.std.specs.Prelude.{◌≡◌, ◌≢◌, ◌↔◌, false, true, IfSome, map, string_bytes};
 ghost use Rattle.kmc_base.specs.Faults.{OnlyFailed};
-ghost use Rattle.kmc_run.specs.Answers.{are_right, deck_files, failed_read, failed_write, FailsInOrder, KeepsOuts, Leaves, MayAnswer, ReadsDeck};
+ghost use Rattle.kmc_run.specs.Answers.{is_run_command, deck_files, failed_read, failed_write, FailsInOrder, KeepsOuts, Leaves, MayAnswer, ReadsDeck};
 ghost use Rattle.kmc_run.specs.PlainDecks.{deck_of_files};
 
+use crate::deck_of_texts::read_deck;
 use crate::drive_fault::DriveFault;
 use crate::driving::drive;
-use crate::joining::read_deck;
 use crate::loading::load_texts;
 use crate::status::Status;
 use deck_shape::DeckFault;
@@ -14,9 +14,15 @@ use std::alloc::Global;
 use std::marker::Sync;
 use std::thread::Threads;
 
-/// The words are the one word `run`.
-fn has_right_words(words: &[String]) -> bool
-    ensures { result ≡ are_right (map string_bytes words.now) }
+/// The number of workers where the command line states none.
+const WORKERS: u32 = 1;
+
+/// The least number of anchors of an event at which workers share its work, where the command line states none.
+const SPREAD: u32 = 64;
+
+/// The words are a command that the program takes: the one word `run`.
+fn is_run_command(words: &[String]) -> bool
+    ensures { result ≡ is_run_command (map string_bytes words.now) }
 {
     match words {
         [word] => word.as_str() == "run",
@@ -51,7 +57,7 @@ fn run<R: Threads + Sync, F: Folder, G: Gate + Sync>(
         Err(DeckFault::Fault(fault)) => return Status::Refused(fault),
         Err(DeckFault::OutOfMemory) => return Status::OutOfMemory,
     };
-    match drive(rt, alloc, deck, folder, gate, 1, 64) {
+    match drive(rt, alloc, deck, folder, gate, WORKERS, SPREAD) {
         Ok(_) => Status::Done,
         Err(DriveFault::WriteFault(out)) => Status::WriteFault(out),
         Err(DriveFault::OutOfMemory) => Status::OutOfMemory,
@@ -70,25 +76,25 @@ pub fn run_program<R: Threads + Sync, F: Folder, S: Sink, G: Gate + Sync>(
     _screen: &mut S,
     gate: &G,
 ) -> Status
-    // It answers so exactly where the words are not those that it takes.
-    ensures words { (result ≡ Status.BadWords) ↔ (are_right (map string_bytes words.now) ≡ false) }
+    // It answers so if and only if the words are no command that it takes.
+    ensures words { (result ≡ Status.BadWords) ↔ (is_run_command (map string_bytes words.now) ≡ false) }
     // Which answers there may be, and what is in the outputs then, by the deck that the files stand for.
-    ensures answer { are_right (map string_bytes words.now) ≡ true → IfSome (F.files folder.old) (λ told. MayAnswer (deck_of_files told) result) }
-    ensures outs { are_right (map string_bytes words.now) ≡ true → IfSome (F.files folder.old) (λ told. Leaves (deck_of_files told) result (F.outs folder.old) (F.outs folder.new)) }
+    ensures answer { is_run_command (map string_bytes words.now) ≡ true → IfSome (F.files folder.old) (λ told. MayAnswer (deck_of_files told) result) }
+    ensures outs { is_run_command (map string_bytes words.now) ≡ true → IfSome (F.files folder.old) (λ told. Leaves (deck_of_files told) result (F.outs folder.old) (F.outs folder.new)) }
     // An answer that nothing was run keeps the outputs, whether or not the files are told.
     ensures kept { KeepsOuts result (F.outs folder.old) (F.outs folder.new) }
-    // A fault of reading or writing is answered exactly where it came in this call, and it is the only one.
+    // A fault of reading or writing is answered if and only if it came in this call, and it is the only one.
     ensures reads { OnlyFailed (failed_read result) (F.read_faults folder.old) (F.read_faults folder.new) }
     // The file of a fault of reading is one of those of a deck: no other is read.
     ensures of_deck { ReadsDeck result }
     // Files are read in order: of those whose reading would fail, the first is answered, unless memory was short.
-    ensures order { are_right (map string_bytes words.now) ≡ true → FailsInOrder deck_files (F.loads folder.old) result }
+    ensures order { is_run_command (map string_bytes words.now) ≡ true → FailsInOrder deck_files (F.loads folder.old) result }
     ensures writes { OnlyFailed (failed_write result) (F.write_faults folder.old) (F.write_faults folder.new) }
     ensures files { F.files folder.new ≡ F.files folder.old }
     ensures screen { _screen.new ≡ _screen.old }
     ensures no_screen_fault { result ≢ Status.ScreenFault }
 {
-    if !has_right_words(words) {
+    if !is_run_command(words) {
         return Status::BadWords;
     }
     run(rt, alloc, folder, gate)

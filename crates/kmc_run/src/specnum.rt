@@ -1,11 +1,11 @@
-ghost use Rattle.std.specs.Prelude.{◌≡◌, ◌^◌, ◌≤◌, ◌++◌, IfOk, OnOk};
+ghost use Rattle.std.specs.Prelude.{◌≡◌, ◌≤◌, ◌++◌, IfOk, OnOk};
 ghost use Rattle.std.specs.Fmt.{decimal};
 ghost use Rattle.dec_text.specs.Fixed.{fixed_text};
 ghost use Rattle.kmc_run.specs.Specnum.{next_counts, next_names, next_word, specnum_head, specnum_line};
 ghost use Rattle.species_book.specs.Book.{names_of};
 
 use dec_text::print_fixed;
-use kmc_base::OutOfMemory;
+use kmc_base::{END_OF_TIME, OutOfMemory};
 use std::alloc::Global;
 
 /// Adds a number in digits.
@@ -73,9 +73,9 @@ pub(crate) fn head(
     Ok(out)
 }
 
-/// What a sample shows beside its counts: its number, the event, the time in as, and the temperature in mK.
+/// What a sample shows beside its counts: its number, the event, the time in attoseconds, and the temperature in mK.
 #[derive(Clone, Copy, Debug)]
-pub(crate) struct Moment {
+pub(crate) struct SampleHead {
     pub(crate) sample: u64,
     pub(crate) event: u64,
     pub(crate) time: u128,
@@ -86,18 +86,18 @@ pub(crate) struct Moment {
 #[tactic(auto, unfolding(crate::specs::Specnum::specnum_line))]
 pub(crate) fn line(
     alloc: Global,
-    moment: Moment,
+    head: SampleHead,
     surface: &[u64],
     gas: &[u64],
 ) -> Result<Vec<u8>, OutOfMemory>
-    requires { moment.time ≤ 10 ^ 30 }
-    ensures { IfOk result (λ text. text.items ≡ specnum_line moment.sample moment.event moment.time moment.temperature surface.now gas.now) }
+    requires { head.time ≤ END_OF_TIME }
+    ensures { IfOk result (λ text. text.items ≡ specnum_line head.sample head.event head.time head.temperature surface.now gas.now) }
 {
     let mut out = Vec::new(alloc);
-    push_number(&mut out, moment.sample)?;
-    push_next(&mut out, moment.event)?;
-    push_fixed(&mut out, moment.time as i128, 18)?;
-    push_fixed(&mut out, i128::from(moment.temperature), 3)?;
+    push_number(&mut out, head.sample)?;
+    push_next(&mut out, head.event)?;
+    push_fixed(&mut out, head.time as i128, 18)?;
+    push_fixed(&mut out, i128::from(head.temperature), 3)?;
     push_fixed(&mut out, 0, 9)?;
     push_counts(&mut out, surface)?;
     push_counts(&mut out, gas)?;

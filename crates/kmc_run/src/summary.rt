@@ -6,7 +6,7 @@ use kmc_core::Stop;
 pub struct Summary {
     /// The number of its last event, which is how many have fired.
     pub events: u64,
-    /// The time of that event, in as.
+    /// The time of that event, in attoseconds.
     pub time: u128,
     /// The energy of the lattice at the end, in neV. It is 0 as long as adsorbates do not interact.
     pub energy: i128,

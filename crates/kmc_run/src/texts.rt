@@ -5,7 +5,7 @@ use kmc_base::Sequence;
 pub(crate) enum Text {
     /// There is no such file.
     Absent,
-    /// It has more than 16,777,216 bytes.
+    /// It has more than `MAX_FILE_BYTES` bytes.
     TooLong,
     /// Its bytes.
     Bytes(Sequence<u8>),

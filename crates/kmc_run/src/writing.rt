@@ -8,7 +8,7 @@ ghost use Rattle.kmc_run.specs.Writes.{Begin, Append, Done, Ended, failed_output
 use crate::counting::adsorbates;
 use crate::drive_fault::DriveFault;
 use crate::specnum;
-use crate::specnum::Moment;
+use crate::specnum::SampleHead;
 use kmc_base::{Folder, OutId, OutOfMemory};
 use kmc_core::{Closed, PlainDeck};
 use sim_deck::Sampling;
@@ -91,7 +91,7 @@ fn sample_line(alloc: Global, closed: &Closed, period: u64) -> Result<Vec<u8>, O
 {
     let deck = closed.deck();
     let event = closed.event();
-    let moment = Moment {
+    let head = SampleHead {
         sample: event / period,
         event,
         time: closed.time(),
@@ -99,7 +99,7 @@ fn sample_line(alloc: Global, closed: &Closed, period: u64) -> Result<Vec<u8>, O
     };
     let surface = adsorbates(alloc, closed)?;
     let gas = no_gas(alloc, deck.gas)?;
-    let line = specnum::line(alloc, moment, &surface, &gas)?;
+    let line = specnum::line(alloc, head, &surface, &gas)?;
     Ok(line)
 }
 

@@ -1,4 +1,6 @@
-use kmc_base::{Failed, FaultCounts, FileId, Folder, Gate, LoadFault, MemoryFolder, OpenGate, OutId};
+use kmc_base::{
+    Failed, FaultCounts, FileId, Folder, Gate, LoadFault, MemoryFolder, OpenGate, OutId,
+};
 use std::alloc::Global;
 use std::test::Fail;
 

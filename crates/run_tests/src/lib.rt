@@ -3,10 +3,20 @@
 #![tactic(auto)]
 
 #[cfg(test)]
+mod decks;
+#[cfg(test)]
 mod errors_as_text;
 #[cfg(test)]
 mod folders_in_memory;
 #[cfg(test)]
+mod refusals;
+#[cfg(test)]
 mod screens_in_memory;
 #[cfg(test)]
 mod sequences;
+#[cfg(test)]
+mod statuses;
+#[cfg(test)]
+mod summaries;
+#[cfg(test)]
+mod whole_runs;

@@ -14,7 +14,10 @@ fn screen_takes_pieces(rt: HostRuntime) -> Result<(), Fail> {
     let mut sink = MemorySink::new(rt.alloc(), 4, failing).map_err(|refused| refused.1)?;
     for (piece, done, text) in PUTS {
         assert_eq!(rt; sink.put(piece.as_bytes()).is_ok(), done);
-        assert_eq!(rt; sink.text().unwrap_or("not told".as_bytes()), text.as_bytes());
+        assert_eq!(rt;
+            sink.text().unwrap_or("not told".as_bytes()),
+            text.as_bytes()
+        );
     }
     Ok(())
 }

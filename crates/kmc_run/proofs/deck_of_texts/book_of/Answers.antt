@@ -1,8 +1,8 @@
 use Rattle.std.proofs.Common.{◌∙◌, ap, map}
 use Rattle.deck_shape.specs.Names.{name_at}
 use Rattle.kmc_run.specs.PlainDecks.{words_of}
-use Rattle.kmc_run.proofs.ReadLemmas.{distinct_at}
-use Rattle.kmc_run.proofs.joining.book_of.Goals as goal
+use Rattle.kmc_run.proofs.SoundDecks.{distinct_at}
+use Rattle.kmc_run.proofs.deck_of_texts.book_of.Goals as goal
 
 pub new-requires-clause-gas_differ : goal.new-requires-clause-gas_differ
 new-requires-clause-gas_differ c =

@@ -2,7 +2,7 @@ use Rattle.std.proofs.Common.{◌≡◌, ◌++◌, drop, map}
 use Rattle.deck_shape.specs.Names.{name_at}
 use Rattle.species_book.specs.Book.{names_of}
 use Rattle.kmc_run.specs.PlainDecks.{words_of}
-use Rattle.kmc_run.proofs.joining.words_of.Given as goal
+use Rattle.kmc_run.proofs.deck_of_texts.words_of.Given as goal
 
 -- the names so far, and those that are left, are all of them
 abbrev pub invariant-loop-name : goal.invariant-loop-name

@@ -1,0 +1,215 @@
+use crate::decks::{
+    DeckTexts, ENERGETICS, FILLED, FILLS, LATTICE, SAMPLED, SPECIES, folder_of, status_of,
+};
+use deck_shape::kind;
+use kmc_base::{FileId, MemoryFolder, OutId};
+use kmc_run::{Fault, Status};
+use std::alloc::Global;
+use std::marker::Sync;
+use std::process::Abort;
+use std::test::Fail;
+use std::thread::Threads;
+
+/// A lattice file that ends before its closing word.
+const OPEN: &str = "lattice explicit\n";
+
+/// A lattice whose sites are their own neighbours.
+const NARROW: &str = "lattice default_choice\nrectangular_periodic 1.0 1 2\nend_lattice\n";
+
+/// A lattice with a site whose type is unknown.
+const UNKNOWN: &str =
+    "lattice explicit\nn_sites 2\nn_site_types 1\nsite_type_names top\nlattice_structure\n1 0.0 0.0 top 1 2\n2 1.0 0.0 2 1 1\nend_lattice_structure\nend_lattice\n";
+
+/// Runs the program on a deck that is refused with this fault. It begins no output.
+fn refuses<R: Threads + Sync + Abort>(
+    rt: &R,
+    alloc: Global,
+    deck: DeckTexts,
+    fault: Fault,
+) -> Result<(), Fail> {
+    let mut folder = folder_of(alloc, deck, [0, 0], 0)?;
+    assert_eq!(rt;
+        status_of(rt, alloc, &["run"], &mut folder)?,
+        Status::Refused(fault)
+    );
+    assert!(rt; folder.output(OutId::Specnum).is_none());
+    Ok(())
+}
+
+#[test]
+fn refuses_simulation_files(rt: HostRuntime) -> Result<(), Fail> {
+    // The last lines of the file, and the line and the kind of its fault. Kind 0 is a file that kmc does not take.
+    const CASES: [(&str, u32, u8); 7] = [
+        (
+            "pressure 1.0\nsurf_specs_dent 1\ntemperature 400.0\nfinish\n",
+            11,
+            kind::REPEATED_WORD,
+        ),
+        ("surf_specs_dent 1\nfinish\n", 10, kind::MISSING_WORD),
+        (
+            "pressure 1.0\nsurf_specs_dent 1 1\nfinish\n",
+            10,
+            kind::LIST_LENGTH,
+        ),
+        (
+            "pressure 1.0\nsurf_specs_dent 1\nsnapshots on event\nfinish\n",
+            0,
+            0,
+        ),
+        (
+            "pressure 1.0\nsurf_specs_dent 1\nprocess_statistics on event\nfinish\n",
+            0,
+            0,
+        ),
+        (
+            "pressure 1.0\nsurf_specs_dent 1\nspecies_numbers on time 1.0\nfinish\n",
+            0,
+            0,
+        ),
+        (
+            "pressure 1.0\nsurf_specs_dent 1\nmax_time 1.0\nfinish\n",
+            0,
+            0,
+        ),
+    ];
+    for (rest, line, kind) in CASES {
+        let simulation = [SPECIES, rest];
+        let file = FileId::Simulation;
+        refuses(
+            &rt,
+            rt.alloc(),
+            DeckTexts {
+                simulation,
+                ..FILLED
+            },
+            Fault { file, line, kind },
+        )?;
+    }
+    Ok(())
+}
+
+// Faults of form come before faults of values, those before an unknown site type, and that before what kmc does not take
+// yet, which is here a step of a species of two dentates. Of two faults of one of these kinds that of the simulation file
+// comes first.
+#[test]
+fn refuses_lattice_files(rt: HostRuntime) -> Result<(), Fail> {
+    const CASES: [(&str, &str, FileId, u32, u8); 7] = [
+        (SAMPLED, NARROW, FileId::Lattice, 2, kind::SELF_NEIGHBOUR),
+        (SAMPLED, UNKNOWN, FileId::Lattice, 7, kind::UNKNOWN_TYPE),
+        (
+            "pressure 1.0\nsurf_specs_dent 1 1\nfinish\n",
+            OPEN,
+            FileId::Lattice,
+            2,
+            kind::NOT_CLOSED,
+        ),
+        (
+            "surf_specs_dent 1\nfinish\n",
+            OPEN,
+            FileId::Simulation,
+            10,
+            kind::MISSING_WORD,
+        ),
+        (
+            "pressure 1.0\nsurf_specs_dent 1 1\nfinish\n",
+            NARROW,
+            FileId::Simulation,
+            10,
+            kind::LIST_LENGTH,
+        ),
+        (
+            "pressure 1.0\nsurf_specs_dent 2\nfinish\n",
+            UNKNOWN,
+            FileId::Lattice,
+            7,
+            kind::UNKNOWN_TYPE,
+        ),
+        (
+            "pressure 1.0\nsurf_specs_dent 2\nfinish\n",
+            LATTICE,
+            FileId::Mechanism,
+            0,
+            0,
+        ),
+    ];
+    for (rest, lattice, file, line, kind) in CASES {
+        let simulation = [SPECIES, rest];
+        let deck = DeckTexts {
+            simulation,
+            lattice,
+            ..FILLED
+        };
+        refuses(&rt, rt.alloc(), deck, Fault { file, line, kind })?;
+    }
+    Ok(())
+}
+
+// Kind 1 is a file that is not there.
+#[test]
+fn refuses_with_the_first_fault(rt: HostRuntime) -> Result<(), Fail> {
+    const CASES: [(&str, &str, &str, &str, FileId, u32, u8); 5] = [
+        (SAMPLED, OPEN, "", FILLS, FileId::Energetics, 0, 1),
+        ("finish\n", LATTICE, ENERGETICS, "", FileId::Mechanism, 0, 1),
+        (
+            SAMPLED,
+            OPEN,
+            "more\n",
+            FILLS,
+            FileId::Lattice,
+            2,
+            kind::NOT_CLOSED,
+        ),
+        (
+            SAMPLED,
+            LATTICE,
+            "more\n",
+            "more\n",
+            FileId::Energetics,
+            0,
+            0,
+        ),
+        (
+            SAMPLED,
+            LATTICE,
+            ENERGETICS,
+            "more\n",
+            FileId::Mechanism,
+            0,
+            0,
+        ),
+    ];
+    for (rest, lattice, energetics, mechanism, file, line, kind) in CASES {
+        let simulation = [SPECIES, rest];
+        let deck = DeckTexts {
+            simulation,
+            lattice,
+            energetics,
+            mechanism,
+        };
+        refuses(&rt, rt.alloc(), deck, Fault { file, line, kind })?;
+    }
+    Ok(())
+}
+
+// Kind 2 is a file of more bytes than a file may have.
+#[test]
+fn refuses_a_file_that_is_too_long(rt: HostRuntime) -> Result<(), Fail> {
+    let alloc = rt.alloc();
+    let long = vec![in alloc; b' '; 16_777_217]?;
+    let files = vec![in alloc;
+        (FileId::Simulation, Vec::from_slice(alloc, b"finish\n")?),
+        (FileId::Lattice, long),
+        (FileId::Energetics, Vec::from_slice(alloc, b"more\n")?),
+    ]?;
+    let mut folder = MemoryFolder::new(files, Vec::new(alloc), Vec::new(alloc), Vec::new(alloc));
+    let fault = Fault {
+        file: FileId::Lattice,
+        line: 0,
+        kind: 2,
+    };
+    assert_eq!(rt;
+        status_of(&rt, alloc, &["run"], &mut folder)?,
+        Status::Refused(fault)
+    );
+    Ok(())
+}
