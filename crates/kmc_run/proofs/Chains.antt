@@ -32,6 +32,6 @@ file_fails file read (Faulty fault) is =
 file_fails file read OutOfMemory is = tt
 
 -- the lines of a file that has a shape
-pub lines_read : (file : FileId) (kind : BlockForm) (text : List ℕ) (shape : Shape) → first_block file ≡ Some kind
-    → (s : IsShapeOf file text shape) → in_file file (block_of_text kind text) ≡ Ok s.block
-lines_read file kind text shape is s = ap (in_file file) (ap (λ o. block_of_text (unwrap_or o kind) text) (sym is ∙ s.begins) ∙ s.read)
+pub lines_read : (file : FileId) (form : BlockForm) (text : List ℕ) (shape : Shape) → first_block file ≡ Some form
+    → (s : IsShapeOf file text shape) → in_file file (block_of_text form text) ≡ Ok s.block
+lines_read file form text shape is s = ap (in_file file) (ap (λ o. block_of_text (unwrap_or o form) text) (sym is ∙ s.begins) ∙ s.read)
