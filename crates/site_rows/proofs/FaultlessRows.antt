@@ -4,7 +4,7 @@ use Rattle.std.proofs.Common.{Option, None, Some, eqb, get_or, is_some, length, 
 use Rattle.std.proofs.Common.{append_assoc}
 use Rattle.std.specs.List.{AllByRecursion, IsDistinct, list_any}
 use Rattle.std.specs.Option.{option_map_or}
-use Rattle.std.proofs.lemmas.Bool.{both_ways, cases_Bool}
+use Rattle.std.proofs.lemmas.Bool.{both_ways, cases_Bool, or_parts}
 use Rattle.std.proofs.lemmas.Bool.Decides.{nat_tests}
 use Rattle.std.proofs.lemmas.Cmp.{nat_eq_equiv}
 use Rattle.std.proofs.lemmas.List.{append-nil, length-append, map-append}
@@ -144,10 +144,6 @@ are_sites : (n : ℕ) (xs : List ℕ) → list_any (is_no_site (Some n)) xs ≡ 
 are_sites n xs none k d within =
     elim (cases_Bool (is_no_site (Some n) (get_or xs k d)))
     [ inl t ↦ absurd (both_ways _ none (list_any_at (is_no_site (Some n)) xs k d within t)) | inr f ↦ is_site n (get_or xs k d) f ]
-
-pub or_parts : (a b : Bool) → (a || b) ≡ false → (a ≡ false) × (b ≡ false)
-or_parts true b none = absurd (cc)
-or_parts false b none = (refl, none)
 
 pub names_sites : (n : ℕ) (row : SiteRow) → has_bad_site (Some n) row ≡ false → NamesSites n row
 names_sites n row none =

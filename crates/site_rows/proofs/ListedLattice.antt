@@ -4,7 +4,7 @@ use Rattle.std.proofs.Common.{◌∷◌, Option, None, Some, eqb, is_some, leb, 
 use Rattle.std.specs.List.{AllByRecursion, IsDistinct, list_any, range_with_len}
 use Rattle.std.specs.List.Sorted.{IsStrictlyIncreasing}
 use Rattle.std.specs.Option.{option_map, option_map_or}
-use Rattle.std.proofs.lemmas.Bool.{both_ways, cases_Bool, eq-eqb, eqb-true, ne_eqb, not-false, or_cases}
+use Rattle.std.proofs.lemmas.Bool.{both_ways, cases_Bool, eq-eqb, eqb-true, ne_eqb, not-false, or_cases, or_parts}
 use Rattle.std.proofs.lemmas.Bool.Decides.{nat_tests}
 use Rattle.std.proofs.lemmas.List.{length-map}
 use Rattle.std.proofs.lemmas.List.FromFn.{get_or-map-range_with_len, length-map-range_with_len}
@@ -26,7 +26,7 @@ use Rattle.site_rows.specs.Listed.{neighbours_at}
 use Rattle.site_rows.specs.Placing.{IsFaultless}
 use Rattle.site_rows.specs.RowFaults.{each_once, has_bad_site, is_one_sided}
 use Rattle.site_rows.specs.SiteRows.{SiteRow, row_for, rows_of}
-use Rattle.site_rows.proofs.FaultlessRows.{SoundRow, good_all, is_site, names_sites, or_parts, same_site}
+use Rattle.site_rows.proofs.FaultlessRows.{SoundRow, good_all, is_site, names_sites, same_site}
 use Rattle.site_rows.proofs.NumberLists.{count_once}
 
 -- numbers of sites from 0
