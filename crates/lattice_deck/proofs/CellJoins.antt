@@ -1,10 +1,11 @@
 -- the joins of a cell without a fault
-use Rattle.std.proofs.Common.{◌≡◌, ℕ, ◌-◌, ◌≤◌, ◌==◌, ◌||◌, Bool, true, false, List, [], ◌∷◌, Option, None, Some, nat_lt, if◌then◌else◌}
+use Rattle.std.proofs.Common.{◌≡◌, ℕ, ◌-◌, ◌≤◌, ◌==◌, Bool, true, false, List, [], ◌∷◌, Option, None, Some, nat_lt, if◌then◌else◌}
 use Rattle.std.proofs.Common.{inl, inr, ap, sym, ◌∙◌, arith, refl}
 use Rattle.std.specs.Prelude.{option_and_then}
 use Rattle.std.specs.List.{AllByRecursion}
 use Rattle.std.specs.Option.{option_map}
-use Rattle.std.proofs.lemmas.Bool.{and_cases, cases_Bool, cases_eq, eq-eqb, eqb-false, eqb-true, ltb-false, not-false, or_left, or_parts, or_right, true≢false}
+use Rattle.std.proofs.lemmas.Bool.{and_cases, cases_Bool, cases_eq, eq-eqb, eqb-false, eqb-true, ltb-false, not-false, or_left, or_parts}
+use Rattle.std.proofs.lemmas.Bool.{or_right, true≢false}
 use Rattle.dec_text.specs.Lines.{WordLine}
 use Rattle.deck_shape.specs.Lists.{has_other_length}
 use Rattle.deck_shape.specs.declared.kind.TheConstants.{BAD_EDGE, ROW_FORM, SELF_NEIGHBOUR}

@@ -1,5 +1,5 @@
 -- the first fault of some lines
-use Rattle.std.proofs.Common.{◌≡◌, ℕ, ◌+◌, ◌<◌, true, false, List, length, map, get_or, drop, Option, None, Some, is_some, ap, sym, ◌∙◌, refl}
+use Rattle.std.proofs.Common.{◌≡◌, ℕ, ◌+◌, ◌<◌, true, false, List, length, map, get_or, drop, Option, is_some, ap, sym, ◌∙◌}
 use Rattle.dec_text.specs.Spans.{line_at}
 use Rattle.dec_text.specs.declared.lines.Line.{Line}
 use Rattle.deck_shape.specs.Blocks.{item_at}

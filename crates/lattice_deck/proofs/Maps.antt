@@ -1,5 +1,5 @@
 -- lists of which a part is left
-use Rattle.std.proofs.Common.{◌≡◌, ℕ, ◌+◌, ◌<◌, suc, List, [], ◌∷◌, length, map, get_or, drop, ap, sym, ◌∙◌, arith, drop-cons, add-one}
+use Rattle.std.proofs.Common.{◌≡◌, ℕ, ◌+◌, ◌<◌, suc, List, ◌∷◌, length, map, get_or, drop, ap, sym, ◌∙◌, drop-cons, add-one}
 
 -- the values that are left are that of this member and those behind it
 pub next_mapped : {X Y : Type 0} (h : X → Y) (xs : List X) (i : ℕ) (x : X) → i < length xs → x ≡ get_or xs i x

@@ -8,7 +8,7 @@ use Rattle.std.proofs.lemmas.Bool.{and_from, and_parts, and_right, both_ways, co
 use Rattle.std.proofs.lemmas.Bool.{lt-ltb, ltb-true, or_left, or_right}
 use Rattle.std.proofs.lemmas.List.{get_or_default}
 use Rattle.std.proofs.lemmas.List.Folds.{Any-from_list_any, list_any_at}
-use Rattle.std.proofs.lemmas.List.FromFn.{length-map-range_with_len, get_or-map-range_with_len}
+use Rattle.std.proofs.lemmas.List.FromFn.{get_or-map-range_with_len}
 use Rattle.std.proofs.lemmas.List.Kept.{IsStrictlyIncreasing-filter}
 use Rattle.lattice_core.specs.declared.fault.GraphFault.TheVariants.{OneSided}
 use Rattle.lattice_core.specs.declared.graph.TheConstants.{MAX_NEIGHBOURS}
@@ -113,5 +113,6 @@ module _ (nx ny sites : ℕ) (joins : List Join) where
 
     pub no_fault : first_fault (neighbour_lists nx ny sites joins) ≡ None
     no_fault = none_among (neighbour_lists nx ny sites joins) (range_with_len 0 (length (neighbour_lists nx ny sites joins))) (λ s is.
-        let low : is_listed (range_with_len 0 (nx * ny * sites)) s ≡ true = ap (λ n. is_listed (range_with_len 0 n) s) (sym (length-neighbour_lists nx ny sites joins)) ∙ is in
+        let low : is_listed (range_with_len 0 (nx * ny * sites)) s ≡ true =
+            ap (λ n. is_listed (range_with_len 0 n) s) (sym (length-neighbour_lists nx ny sites joins)) ∙ is in
         sound_site s (out_of_range s low))

@@ -1,8 +1,7 @@
 -- type words that are no type
-use Rattle.std.proofs.Common.{◌≡◌, ◌==◌, ◌∙◌, ℕ, Bool, List, [], ◌∷◌, map, Option, None, Some, ap, refl, ⊎_elim}
+use Rattle.std.proofs.Common.{◌≡◌, ◌==◌, ◌∙◌, ℕ, List, map, Option, None, Some, ap, refl}
 use Rattle.std.specs.List.{find}
 use Rattle.std.specs.Option.{option_map}
-use Rattle.std.proofs.lemmas.Bool.{cases_Bool}
 use Rattle.dec_text.specs.Spans.{bytes_at}
 use Rattle.deck_shape.proofs.Maps.{find-map}
 use Rattle.deck_shape.specs.Names.{NameWord, name_at}

@@ -53,7 +53,7 @@ word_kind sizes Types item = fault_if (has_other_length sizes.sites (length (wor
 word_kind sizes (Coordinates count) item = rows_kind (row_count sizes count) item.rows
 word_kind sizes Joins item = fault_if (crowds sizes item.rows) TOO_MANY_NEIGHBOURS
 word_kind sizes SiteRows item = rows_kind sizes.sites item.rows
-word_kind sizes (Default kind) item = default_kind (words_of item)
+word_kind sizes (Default named) item = default_kind (words_of item)
 
 -- the lines of rows, each with its fault by its words
 abbrev pub row_lines : (List (List ℕ) → Option ℕ) → List WordLine → List (ℕ × Option ℕ)
@@ -72,7 +72,7 @@ rows_fault sizes Types rows = None
 rows_fault sizes (Coordinates count) rows = first_of_lines (row_lines coordinates_kind rows)
 rows_fault sizes Joins rows = first_of_lines (row_lines (join_kind sizes) rows)
 rows_fault sizes SiteRows rows = site_rows_fault sizes.sites rows
-rows_fault sizes (Default kind) rows = None
+rows_fault sizes (Default named) rows = None
 
 -- the first fault of a word of this form and of its rows
 abbrev pub form_fault : Sizes → ItemLines → Form → Option (ℕ × ℕ)

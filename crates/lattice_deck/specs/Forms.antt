@@ -12,4 +12,4 @@ IsForm Types = Unit {0}
 IsForm (Coordinates count) = Unit {0}
 IsForm Joins = Unit {0}
 IsForm SiteRows = Unit {0}
-IsForm (Default kind) = Unit {0}
+IsForm (Default named) = Unit {0}

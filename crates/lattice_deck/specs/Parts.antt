@@ -53,8 +53,8 @@ behind_constant (constant ∷ repeats) = repeats
 
 -- the default lattice of these words
 abbrev pub default_of : DefaultLattice → List (List ℕ) → Lattice
-default_of kind words =
-    option_map_or (λ r. default_lattice kind r.0 r.1) (repeats_of (behind_constant words))
+default_of named words =
+    option_map_or (λ r. default_lattice named r.0 r.1) (repeats_of (behind_constant words))
     (record { types = []; neighbours = [] })
 
 -- the default lattice of a file, whose one type has the name StTp1

@@ -159,9 +159,8 @@ fn rows_fault(
         Form::Coordinates(_) => Ok(coordinates_fault(bytes, rows)),
         Form::Joins => Ok(joins_fault(sizes, bytes, rows)),
         Form::SiteRows => site_rows_fault(alloc, bytes, sizes.sites, rows),
-        Form::NumberForm(_) | Form::Repeats | Form::TypeNames | Form::Types | Form::Default(_) => Ok(
-            None,
-        ),
+        Form::NumberForm(_) | Form::Repeats | Form::TypeNames | Form::Types | Form::Default(_) =>
+            Ok(None),
     }
 }
 

@@ -19,7 +19,7 @@ use crate::part::LatticePart;
 use crate::sizes::{Sizes, repeats_of, sizes_in};
 use dec_text::{Line, Span};
 use deck_shape::{Block, BlockForm, Keyword, NO_WORD, Name};
-use kmc_base::{Sequence, OutOfMemory};
+use kmc_base::{OutOfMemory, Sequence};
 use lattice_cell::{DefaultLattice, Join, expand_default, expand_periodic};
 use lattice_core::{Graph, GraphFault};
 use site_rows::TypeIndex;

@@ -120,8 +120,7 @@ differ_in : (counts : Counts) (count : Count) (r : Option ItemLines) → IfSome 
     → (names_repeat (list_of r) ≡ false) × (list_any is_bad_name (list_of r) ≡ false)
 differ_in counts count None none = (refl, refl)
 differ_in counts count (Some item) none =
-    let both = neither _ _ none in
-    (
+    let both = neither _ _ none in (
       holds_not (names_repeat (words_of item)) REPEATED_NAME (neither _ _ both.0).1,
       holds_not (list_any is_bad_name (words_of item)) BAD_NAME both.1,
     )

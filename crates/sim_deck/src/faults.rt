@@ -17,8 +17,8 @@ use crate::samplings::sampling_kind;
 use dec_text::Span;
 use deck_shape::kind::LIST_LENGTH;
 use deck_shape::{
-    Block, Item, Keyword, NumberForm, fault_if, has_other_length, lesser, line_fault, numbers_fault,
-    whole_value,
+    Block, Item, Keyword, NumberForm, fault_if, has_other_length, lesser, line_fault,
+    numbers_fault, whole_value,
 };
 use kmc_base::{MAX_SPECIES, OutOfMemory};
 use std::alloc::Global;

@@ -12,9 +12,7 @@ use crate::part::{Plan, Sampling, SimPart};
 use crate::samplings::sampling_of;
 use dec_text::{Decimal, Span};
 use deck_shape::{Block, Keyword, ZERO, decimal_value, up_to_value, whole_value};
-use kmc_base::{
-    END_OF_TIME, MAX_DENTATES, MAX_ENERGY, MAX_EVENTS, OutOfMemory, Sequence,
-};
+use kmc_base::{END_OF_TIME, MAX_DENTATES, MAX_ENERGY, MAX_EVENTS, OutOfMemory, Sequence};
 use std::alloc::Global;
 
 /// The first word behind a keyword; an empty one where there is none.
