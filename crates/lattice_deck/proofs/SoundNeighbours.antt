@@ -114,5 +114,5 @@ module _ (nx ny sites : ℕ) (joins : List Join) where
     pub no_fault : first_fault (neighbour_lists nx ny sites joins) ≡ None
     no_fault = none_among (neighbour_lists nx ny sites joins) (range_with_len 0 (length (neighbour_lists nx ny sites joins))) (λ s is.
         let low : is_listed (range_with_len 0 (nx * ny * sites)) s ≡ true =
-            ap (λ n. is_listed (range_with_len 0 n) s) (sym (length-neighbour_lists nx ny sites joins)) ∙ is in
+        ap (λ n. is_listed (range_with_len 0 n) s) (sym (length-neighbour_lists nx ny sites joins)) ∙ is in
         sound_site s (out_of_range s low))

@@ -66,7 +66,7 @@ stated_or_none n (Some words) is written = written
 list_written : {Y : Type 0} (number : Sort) (write : List ℕ → Option Y) (value : List ℕ → Y)
     → ((word : List ℕ) → number_fault number word ≡ None → write word ≡ Some (value word))
     → (r : Words) → IfSome r (λ words. numbers_fault number words ≡ None)
-        → map write (unwrap_or r []) ≡ map (λ y. Some y) (map value (unwrap_or r []))
+    → map write (unwrap_or r []) ≡ map (λ y. Some y) (map value (unwrap_or r []))
 list_written number write value same None none = refl
 list_written number write value same (Some words) none = all_written number write value same words none
 

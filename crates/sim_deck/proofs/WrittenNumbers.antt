@@ -99,8 +99,8 @@ events_is word none = events_of (is_infinity (word ∷ [])) word (same_words (co
 time_of : (infinity : Bool) (word : List ℕ) → (if infinity then None else numbers_fault TIME_LIMIT (word ∷ [])) ≡ None
     → (if infinity then Some None else option_map (λ t. Some t) (scaled_written 18 word))
     ≡ Some (option_map (λ t. pos t)
-        (if infinity then None else Some
-        (unsigned_abs (decimal_value 18 (pos 0) (pos END_OF_TIME) (pos 0) (decimal_of word)))))
+    (if infinity then None else Some
+    (unsigned_abs (decimal_value 18 (pos 0) (pos END_OF_TIME) (pos 0) (decimal_of word)))))
 time_of true word none = refl
 time_of false word none = ap (option_map (λ t. Some t)) (natural_is 18 0 0 (pos END_OF_TIME) word (neither _ _ none).0)
 

@@ -31,7 +31,7 @@ two_words words false is none = absurd cc
 three_words : (c : List ℕ) (words : List (List ℕ)) (event time : Bool)
     → (event ≡ true → words ≡ codes "on" ∷ codes "event" ∷ c ∷ []) → (time ≡ true → words ≡ codes "on" ∷ codes "time" ∷ c ∷ [])
     → (if event then number_fault (Whole 1 MAX_EVENTS)
-        c else (if time then number_fault (Scaled 18 (pos 1) (pos END_OF_TIME)) c else Some BAD_CHOICE)) ≡ None
+    c else (if time then number_fault (Scaled 18 (pos 1) (pos END_OF_TIME)) c else Some BAD_CHOICE)) ≡ None
     → WritesSampling (if event then Event (event_period c) else (if time then Time (time_period c) else Off)) words
 three_words c words true time on_event on_time none = inr (record { period = c; three = on_event refl; written = whole_is 1 MAX_EVENTS 1 c none })
 three_words c words false true on_event on_time none =

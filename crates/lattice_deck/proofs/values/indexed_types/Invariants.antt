@@ -7,4 +7,4 @@ use Rattle.lattice_deck.proofs.values.indexed_types.Given as goal
 abbrev pub invariant-loop-word : goal.invariant-loop-word
 invariant-loop-word l =
     l.types.items ++ map (type_of l.index) (map (bytes_at l.bytes) (drop l.word-index l.words))
-        ≡ map (type_of l.index) (map (bytes_at l.bytes) l.words)
+    ≡ map (type_of l.index) (map (bytes_at l.bytes) l.words)
