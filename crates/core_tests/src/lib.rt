@@ -1,4 +1,5 @@
-//! Tests of the crates that compute a run: logarithms and waiting times, draws, patterns, the board, and the core, through their public calls.
+//! Tests of the crates that compute a run: logarithms and waiting times, draws, patterns, the board, and the core,
+//! through their public calls.
 #![tactic(auto)]
 
 #[cfg(test)]
@@ -13,6 +14,10 @@ mod instance_codes;
 mod pattern_listings;
 #[cfg(test)]
 mod rates_and_waits;
+#[cfg(test)]
+mod runs_of_the_core;
+#[cfg(test)]
+mod small_decks;
 #[cfg(test)]
 mod small_lattices;
 #[cfg(test)]

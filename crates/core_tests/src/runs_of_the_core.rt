@@ -1,0 +1,435 @@
+ghost use Rattle.std.specs.Prelude.{IfOk};
+ghost use Rattle.kmc_core.specs.Deck.{IsSound};
+
+use crate::small_decks::{SmallDeck, Species, Step, made};
+use kmc_base::{SiteId, SpeciesId};
+use kmc_core::{Closed, Fired, PlainDeck, Stop, Unclosed};
+use pattern_types::Wanted;
+use sim_deck::Sampling;
+use std::alloc::Global;
+use std::process::Abort;
+use std::test::Fail;
+
+/// What the next site adds to a code, and the next process.
+const SITE: u128 = 1 << 35;
+
+const PROCESS: u128 = 1 << 55;
+
+/// What the next slot adds to a code, of the second vertex that is placed, and of the third.
+const SECOND: u128 = 1 << 30;
+
+const THIRD: u128 = 1 << 25;
+
+/// A pre-exponential factor of 1e300: every wait is 1 attosecond.
+const AT_ONCE: Option<i64> = Some(1_070_067_939_600);
+
+/// A pre-exponential factor of 1e13.
+const USUAL: Option<i64> = Some(46_369_610_716);
+
+/// The two species of the decks of adsorbates on one site each, and that of the decks of dimers.
+const A: SpeciesId = SpeciesId(0);
+
+const B: SpeciesId = SpeciesId(1);
+
+const DIMER: SpeciesId = SpeciesId(0);
+
+/// Sides of steps on one site.
+const FREE: &[Wanted] = &[Wanted::Vacant];
+
+const ON_A: &[Wanted] = &[Wanted::Holds {
+    entity: 1,
+    species: A,
+    dentate: 1,
+}];
+
+const ON_B: &[Wanted] = &[Wanted::Holds {
+    entity: 1,
+    species: B,
+    dentate: 1,
+}];
+
+/// Vertices that want the dentates of a dimer.
+const FIRST: Wanted = Wanted::Holds {
+    entity: 1,
+    species: DIMER,
+    dentate: 1,
+};
+
+const LAST: Wanted = Wanted::Holds {
+    entity: 1,
+    species: DIMER,
+    dentate: 2,
+};
+
+/// Four sites without neighbours.
+const FOUR_SITES: &[&[SiteId]] = &[&[], &[], &[], &[]];
+
+/// Site 3 has slot 1 among the neighbours 0 and 3 of site 2.
+const SQUARE: &[&[SiteId]] = &[
+    &[SiteId(1), SiteId(2)],
+    &[SiteId(0), SiteId(3)],
+    &[SiteId(0), SiteId(3)],
+    &[SiteId(1), SiteId(2)],
+];
+
+/// The ring 0 1 4 3 2.
+const RING: &[&[SiteId]] = &[
+    &[SiteId(1), SiteId(2)],
+    &[SiteId(0), SiteId(4)],
+    &[SiteId(0), SiteId(3)],
+    &[SiteId(2), SiteId(4)],
+    &[SiteId(1), SiteId(3)],
+];
+
+const TRIANGLE: &[&[SiteId]] = &[
+    &[SiteId(1), SiteId(2)],
+    &[SiteId(0), SiteId(2)],
+    &[SiteId(0), SiteId(1)],
+];
+
+/// What a run reports at an event: its time, its numbers of both species, and what fires next.
+type Report = (u128, [u64; 2], Option<(u128, u128)>);
+
+/// A run: its deck, what it reports at its events from 0 on, and why it ends.
+#[derive(Clone, Copy)]
+struct Run<'a> {
+    deck: SmallDeck<'a>,
+    reports: &'a [Report],
+    stop: Stop,
+}
+
+/// A step on one site.
+fn step<'a>(
+    before: &'a [Wanted],
+    after: &'a [Wanted],
+    factor: Option<i64>,
+    activation: i64,
+) -> Step<'a> {
+    Step {
+        edges: &[],
+        before,
+        after,
+        factor,
+        activation,
+    }
+}
+
+/// A deck of adsorbates on one site each, on four sites without neighbours.
+fn on_four_sites<'a>(steps: &'a [Step<'a>], seed: u64, max_steps: u64) -> SmallDeck<'a> {
+    SmallDeck {
+        neighbours: FOUR_SITES,
+        species: Species::OneSite,
+        steps,
+        seed,
+        max_steps,
+        max_time: None,
+        specnum: Sampling::Off,
+    }
+}
+
+/// A deck of dimers.
+fn of_dimers<'a>(
+    neighbours: &'a [&'a [SiteId]],
+    steps: &'a [Step<'a>],
+    max_steps: u64,
+) -> SmallDeck<'a> {
+    SmallDeck {
+        neighbours,
+        species: Species::Dimer,
+        steps,
+        seed: 1,
+        max_steps,
+        max_time: None,
+        specnum: Sampling::Off,
+    }
+}
+
+/// What a run reports at its event.
+fn report(closed: &Closed) -> Report {
+    let counts = [closed.counts_of(A), closed.counts_of(B)];
+    (closed.time(), counts, closed.least())
+}
+
+/// Lists the instances of an open event and closes it, which cannot be closed before.
+fn listed(rt: &impl Abort, alloc: Global, open: Unclosed) -> Result<Closed, Fail> {
+    assert_eq!(rt; open.undone(), 1);
+    let Err((mut open, undone)) = open.close() else {
+        return Err("closed with the listing undone")?;
+    };
+    assert_eq!(rt; undone.mask, 1);
+    open.rescan(alloc)?;
+    assert_eq!(rt; open.undone(), 0);
+    Ok(open.close()?)
+}
+
+/// Follows a run to its end, and checks what it reports on the way and why it ends.
+fn follow(rt: &impl Abort, alloc: Global, run: &Run) -> Result<(), Fail> {
+    let mut closed = Closed::start(alloc, made(alloc, &run.deck)?)?;
+    for (event, expected) in run.reports.iter().enumerate() {
+        assert_eq!(rt; closed.event(), event as u64);
+        assert_eq!(rt; report(&closed), *expected);
+        match closed.fire() {
+            Fired::Next(open) => closed = listed(rt, alloc, open)?,
+            Fired::Ended(ended, stop) => {
+                assert_eq!(rt; report(&ended), *expected);
+                assert_eq!(rt; ended.deck().plan.max_steps, run.deck.max_steps);
+                assert_eq!(rt; event, run.reports.len().wrapping_sub(1));
+                assert_eq!(rt; stop, run.stop);
+                return Ok(());
+            }
+        }
+    }
+    Err("the run goes on")?
+}
+
+/// Follows some runs, one after another.
+fn follow_all(rt: &impl Abort, alloc: Global, runs: &[Run]) -> Result<(), Fail> {
+    for run in runs {
+        follow(rt, alloc, run)?;
+    }
+    Ok(())
+}
+
+#[test]
+fn runs_of_one_species(rt: HostRuntime) -> Result<(), Fail> {
+    let stay = [step(FREE, FREE, AT_ONCE, 0)];
+    let adsorb = [step(FREE, ON_A, AT_ONCE, 0)];
+    let never = [step(FREE, ON_A, None, 0), step(FREE, ON_A, AT_ONCE, 0)];
+    let runs = [
+        // The instance that fired is there again, and is drawn again; the others keep their times.
+        Run {
+            deck: on_four_sites(&stay, 1, 5),
+            reports: &[
+                (0, [0, 0], Some((1, 0))),
+                (1, [0, 0], Some((1, SITE))),
+                (1, [0, 0], Some((1, 2 * SITE))),
+                (1, [0, 0], Some((1, 3 * SITE))),
+                (1, [0, 0], Some((2, 0))),
+                (2, [0, 0], Some((2, SITE))),
+            ],
+            stop: Stop::Steps,
+        },
+        // The sites are taken one by one, and then nothing is left.
+        Run {
+            deck: on_four_sites(&adsorb, 1, 10),
+            reports: &[
+                (0, [0, 0], Some((1, 0))),
+                (1, [1, 0], Some((1, SITE))),
+                (1, [2, 0], Some((1, 2 * SITE))),
+                (1, [3, 0], Some((1, 3 * SITE))),
+                (1, [4, 0], None),
+            ],
+            stop: Stop::Still,
+        },
+        // A step without a rate never fires. The greatest number of events is looked at first.
+        Run {
+            deck: on_four_sites(&never, 1, 4),
+            reports: &[
+                (0, [0, 0], Some((1, PROCESS))),
+                (1, [1, 0], Some((1, PROCESS + SITE))),
+                (1, [2, 0], Some((1, PROCESS + 2 * SITE))),
+                (1, [3, 0], Some((1, PROCESS + 3 * SITE))),
+                (1, [4, 0], None),
+            ],
+            stop: Stop::Steps,
+        },
+    ];
+    follow_all(&rt, rt.alloc(), &runs)
+}
+
+#[test]
+fn runs_of_two_species(rt: HostRuntime) -> Result<(), Fail> {
+    let steps = [step(FREE, ON_A, AT_ONCE, 0), step(ON_A, ON_B, AT_ONCE, 0)];
+    let run = Run {
+        deck: on_four_sites(&steps, 1, 6),
+        reports: &[
+            (0, [0, 0], Some((1, 0))),
+            (1, [1, 0], Some((1, SITE))),
+            (1, [2, 0], Some((1, 2 * SITE))),
+            (1, [3, 0], Some((1, 3 * SITE))),
+            (1, [4, 0], Some((2, PROCESS))),
+            (2, [3, 1], Some((2, PROCESS + SITE))),
+            (2, [2, 2], Some((2, PROCESS + 2 * SITE))),
+        ],
+        stop: Stop::Steps,
+    };
+    follow(&rt, rt.alloc(), &run)
+}
+
+/// The run of drawn waits: its expected times are those of a plain implementation of the rules in another language.
+const DRAWN: &[Report] = &[
+    (0, [0, 0], Some((58_394_940_709_334, 0))),
+    (
+        58_394_940_709_334,
+        [1, 0],
+        Some((226_773_691_027_354, 3 * SITE)),
+    ),
+    (
+        226_773_691_027_354,
+        [2, 0],
+        Some((1_134_240_082_009_510, SITE)),
+    ),
+    (
+        1_134_240_082_009_510,
+        [3, 0],
+        Some((2_845_403_703_671_848, 2 * SITE)),
+    ),
+    (
+        2_845_403_703_671_848,
+        [4, 0],
+        Some((4_637_873_672_991_033, PROCESS + SITE)),
+    ),
+    (
+        4_637_873_672_991_033,
+        [3, 0],
+        Some((5_618_632_491_897_354, SITE)),
+    ),
+    (
+        5_618_632_491_897_354,
+        [4, 0],
+        Some((7_049_076_578_018_175, PROCESS + 3 * SITE)),
+    ),
+    (
+        7_049_076_578_018_175,
+        [3, 0],
+        Some((7_133_108_650_678_526, PROCESS + 2 * SITE)),
+    ),
+    (
+        7_133_108_650_678_526,
+        [2, 0],
+        Some((7_633_745_790_219_506, 2 * SITE)),
+    ),
+];
+
+#[test]
+fn drawn_waits_and_early_stops(rt: HostRuntime) -> Result<(), Fail> {
+    let steps = [
+        step(FREE, ON_A, USUAL, 1_000_000_000),
+        step(ON_A, FREE, USUAL, 1_050_000_000),
+    ];
+    let whole = on_four_sites(&steps, 258, 8);
+    let short = SmallDeck {
+        max_steps: 1,
+        ..whole
+    };
+    let runs = [
+        Run {
+            deck: whole,
+            reports: DRAWN,
+            stop: Stop::Steps,
+        },
+        // The samples are looked at before the greatest number of events: 10,000,001 are due, and then 9,999,999.
+        Run {
+            deck: SmallDeck {
+                specnum: Sampling::Time(5_839_494),
+                ..short
+            },
+            reports: &DRAWN[..2],
+            stop: Stop::Samples,
+        },
+        Run {
+            deck: SmallDeck {
+                specnum: Sampling::Time(5_839_495),
+                ..short
+            },
+            reports: &DRAWN[..2],
+            stop: Stop::Steps,
+        },
+        // An event at the end of time fires, and one behind it does not.
+        Run {
+            deck: SmallDeck {
+                max_time: Some(58_394_940_709_334),
+                ..whole
+            },
+            reports: &DRAWN[..2],
+            stop: Stop::Horizon,
+        },
+        Run {
+            deck: SmallDeck {
+                max_time: Some(58_394_940_709_333),
+                ..whole
+            },
+            reports: &DRAWN[..1],
+            stop: Stop::Horizon,
+        },
+    ];
+    follow_all(&rt, rt.alloc(), &runs)
+}
+
+/// A dimer adsorbs on two vacant neighbours.
+const ADSORB: Step<'static> = Step {
+    edges: &[(1, 2)],
+    before: &[Wanted::Vacant, Wanted::Vacant],
+    after: &[FIRST, LAST],
+    factor: AT_ONCE,
+    activation: 0,
+};
+
+/// A dimer desorbs as a whole.
+const DESORB: Step<'static> = Step {
+    edges: &[(1, 2)],
+    before: &[FIRST, LAST],
+    after: &[Wanted::Vacant, Wanted::Vacant],
+    factor: AT_ONCE,
+    activation: 0,
+};
+
+/// A dimer adsorbs on vertices 3 and 2 beside a vacant vertex 1. The vertices are placed in the order 1, 3, 2.
+const ADSORB_BESIDE: Step<'static> = Step {
+    edges: &[(1, 3), (2, 3)],
+    before: &[Wanted::Vacant, Wanted::Vacant, Wanted::Vacant],
+    after: &[Wanted::Vacant, LAST, FIRST],
+    factor: AT_ONCE,
+    activation: 0,
+};
+
+/// A dimer walks: its dentate 1 follows to the site of dentate 2, which goes on to a vacant site.
+const WALK: Step<'static> = Step {
+    edges: &[(1, 3), (2, 3)],
+    before: &[FIRST, Wanted::Vacant, LAST],
+    after: &[Wanted::Vacant, LAST, FIRST],
+    factor: AT_ONCE,
+    activation: 0,
+};
+
+#[test]
+fn runs_of_dimers(rt: HostRuntime) -> Result<(), Fail> {
+    let runs = [
+        // A dimer is counted once, by its dentate 1.
+        Run {
+            deck: of_dimers(SQUARE, &[ADSORB], 10),
+            reports: &[
+                (0, [0, 0], Some((1, 0))),
+                (1, [1, 0], Some((1, 2 * SITE + SECOND))),
+                (1, [2, 0], None),
+            ],
+            stop: Stop::Still,
+        },
+        // On the ring the sites 0, 3, 2 come before 0, 4, 1, and their code after it.
+        Run {
+            deck: of_dimers(RING, &[ADSORB_BESIDE, DESORB], 5),
+            reports: &[
+                (0, [0, 0], Some((1, THIRD))),
+                (1, [1, 0], Some((1, SECOND + THIRD))),
+                (1, [2, 0], Some((2, PROCESS + SITE + SECOND))),
+                (2, [1, 0], Some((2, PROCESS + 2 * SITE + SECOND))),
+                (2, [0, 0], Some((3, THIRD))),
+                (3, [1, 0], Some((3, SECOND + THIRD))),
+            ],
+            stop: Stop::Steps,
+        },
+        // A dimer walks round a triangle.
+        Run {
+            deck: of_dimers(TRIANGLE, &[ADSORB, WALK], 4),
+            reports: &[
+                (0, [0, 0], Some((1, 0))),
+                (1, [1, 0], Some((2, PROCESS + THIRD))),
+                (2, [1, 0], Some((3, PROCESS + SITE + SECOND))),
+                (3, [1, 0], Some((4, PROCESS + 2 * SITE))),
+                (4, [1, 0], Some((5, PROCESS + THIRD))),
+            ],
+            stop: Stop::Steps,
+        },
+    ];
+    follow_all(&rt, rt.alloc(), &runs)
+}
