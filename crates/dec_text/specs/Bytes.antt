@@ -1,3 +1,4 @@
+-- The bytes that cut a text into lines, comments and words.
 use Rattle.std.specs.Prelude.{◌==◌, ℕ, Bool, ◌||◌}
 
 -- the byte that ends a line: LF

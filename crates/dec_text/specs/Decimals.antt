@@ -1,3 +1,4 @@
+-- Decimal numbers: how they are written, and what they are.
 use Rattle.std.specs.Prelude.{neg_ℤ, ◌≡◌, ◌^◌, ◌%◌, ◌<◌, ◌≤ℤ◌, ◌-◌, ◌==◌, ◌&&◌, ◌||◌, ℕ, ℤ, pos, negsuc, ◌+ℤ◌, ◌-ℤ◌, Bool, false}
 use Rattle.std.specs.Prelude.{if◌then◌else◌, List, [], ◌∷◌, length, take, drop, filter, nat_le, Option, Some, None, Result, Ok, Err}
 use Rattle.std.specs.Prelude.{count_by}

@@ -1,3 +1,4 @@
+-- Digits, and the whole number that they write.
 use Rattle.std.specs.Prelude.{◌+◌, ◌-◌, ◌*◌, ◌==◌, ◌&&◌, ℕ, Bool, if◌then◌else◌, not, List, [], ◌∷◌, nat_le}
 use Rattle.std.specs.List.{fold, list_all}
 use Rattle.dec_text.specs.Lines.{is_filled}

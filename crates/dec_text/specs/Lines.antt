@@ -1,3 +1,4 @@
+-- The lines of a text and their words.
 use Rattle.std.specs.Prelude.{◌+◌, ℕ, Bool, true, false, if◌then◌else◌, List, [], ◌∷◌, map, filter}
 use Rattle.std.specs.List.{before_first, enumerate_from}
 use Rattle.dec_text.specs.Bytes.{is_line_feed, is_comment_mark, is_blank}

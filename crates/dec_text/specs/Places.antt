@@ -1,3 +1,4 @@
+-- The lines of a text from a place on, and the next of them.
 use Rattle.std.specs.Prelude.{◌≡◌, ℕ, Bool, List, [], ◌∷◌, length, Option, None, Some}
 use Rattle.std.specs.List.{slice_range}
 use Rattle.dec_text.specs.Bytes.{is_blank, is_comment_mark, is_line_feed}

@@ -1,3 +1,4 @@
+-- What is printed of a number is read back as that number.
 use Rattle.std.specs.Prelude.{◌≡◌, ℕ, ℤ, Ok}
 use Rattle.dec_text.specs.Decimals.{Scientific, decimal_of}
 use Rattle.dec_text.specs.Fixed.{fixed_text}

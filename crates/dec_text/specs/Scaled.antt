@@ -1,3 +1,4 @@
+-- Decimals in smaller units: times a power of ten, rounded, and within bounds.
 use Rattle.std.specs.Prelude.{◌+◌, ◌*◌, ◌/◌, ◌^◌, ◌||◌, ℕ, ℤ, pos, negsuc, ◌+ℤ◌, if◌then◌else◌, Result, Ok, Err}
 use Rattle.std.specs.Int.Signed.{lt_z}
 use Rattle.dec_text.specs.Decimals.{Scientific, signed}

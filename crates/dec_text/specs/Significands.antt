@@ -1,3 +1,4 @@
+-- The significant digits of a decimal, as they are read digit by digit. Not part of what is promised: no public contract cites this.
 use Rattle.std.specs.Prelude.{◌≡◌, ◌-◌, ◌^◌, ◌<◌, ℕ, Bool, if◌then◌else◌, List, [], ◌∷◌, ◌++◌, length, min, take}
 use Rattle.dec_text.specs.Digits.{number, without_leading_zeros}
 use Rattle.dec_text.specs.Lines.{is_filled}

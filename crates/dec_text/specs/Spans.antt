@@ -1,3 +1,4 @@
+-- The words and lines of a text, by their places.
 use Rattle.std.specs.Prelude.{ℕ, ◌<◌, ◌≤◌, List, length, map, All}
 use Rattle.std.specs.List.{slice_range}
 use Rattle.dec_text.specs.Lines.{Run, WordLine}

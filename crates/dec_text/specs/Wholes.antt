@@ -1,3 +1,4 @@
+-- Whole numbers: how they are written, and what they are.
 use Rattle.std.specs.Prelude.{◌^◌, ◌==◌, ◌&&◌, ℕ, Bool, if◌then◌else◌, List, [], ◌∷◌, nat_lt, Result, Ok, Err}
 use Rattle.dec_text.specs.Digits.{are_digits, number}
 use Rattle.dec_text.specs.declared.faults.NotWhole.{NotWhole}

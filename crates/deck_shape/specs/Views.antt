@@ -1,4 +1,4 @@
--- What the reader has so far, as lists of lines.
+-- What the reader has so far, as lists of lines. Not part of what is promised: no public contract cites this.
 use Rattle.std.specs.Prelude.{ℕ, List, map}
 use Rattle.dec_text.specs.Spans.{run_at}
 use Rattle.deck_shape.specs.Blocks.{item_at}

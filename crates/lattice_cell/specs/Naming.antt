@@ -1,4 +1,4 @@
--- What the lists of neighbours of all sites name while they grow.
+-- What the lists of neighbours of all sites name while they grow. Not part of what is promised: no public contract cites this.
 use Rattle.std.specs.Prelude.{ℕ, ◌≡◌, ◌||◌, Bool, List, length}
 use Rattle.std.specs.declared.vec.Vec.{Vec}
 use Rattle.std.specs.declared.alloc.Global.{Global}

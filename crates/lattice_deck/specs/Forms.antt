@@ -1,4 +1,4 @@
--- What is true of the forms of the table.
+-- What is true of the forms of the table. Not part of what is promised: no public contract cites this.
 use Rattle.deck_shape.specs.Numbers.{IsNumber}
 use Rattle.lattice_deck.specs.declared.forms.Form.{Form}
 use Rattle.lattice_deck.specs.declared.forms.Form.TheVariants.{NumberForm, Repeats, TypeNames, Types, Coordinates, Joins, SiteRows, Default}

@@ -1,4 +1,4 @@
--- The forms of words whose numbers have bounds that a decimal can be compared with.
+-- The forms of words whose numbers have bounds that a decimal can be compared with. Not part of what is promised: no public contract cites this.
 use Rattle.deck_shape.specs.Numbers.{IsNumber}
 use Rattle.sim_deck.specs.declared.forms.Form.{Form}
 use Rattle.sim_deck.specs.declared.forms.Form.TheVariants.{NumberForm, NumberOrInfinity, Numbers, Names, Sampling, Free}

@@ -1,4 +1,4 @@
--- What the reader has: the numbers of species.
+-- What the reader has: the numbers of species. Not part of what is promised: no public contract cites this.
 use Rattle.sim_deck.specs.Lists.{Counts}
 use Rattle.sim_deck.specs.declared.lists.Counts.{Counts as Held}
 

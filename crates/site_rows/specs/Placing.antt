@@ -1,4 +1,4 @@
--- The rows of an explicit lattice, put at their sites.
+-- The rows of an explicit lattice, put at their sites. Not part of what is promised: no public contract cites this.
 use Rattle.std.specs.Prelude.{ℕ, ◌≡◌, ◌≤◌, All, List, None, Some, length, map}
 use Rattle.std.specs.List.{range_with_len}
 use Rattle.std.specs.declared.alloc.Global.{Global}

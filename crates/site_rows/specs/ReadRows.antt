@@ -1,4 +1,4 @@
--- Rows of sites as they are read.
+-- Rows of sites as they are read. Not part of what is promised: no public contract cites this.
 use Rattle.std.specs.Prelude.{ℕ, List}
 use Rattle.dec_text.specs.Spans.{bytes_at}
 use Rattle.site_rows.specs.SiteRows.{SiteRow}

@@ -1,4 +1,4 @@
--- What is kept of the rows of sites, to look up the row of a site.
+-- What is kept of the rows of sites, to look up the row of a site. Not part of what is promised: no public contract cites this.
 use Rattle.std.specs.Prelude.{ℕ, ◌≡◌, List, Option, None, Some, is_some}
 use Rattle.std.specs.BTreeMap.{BTreeMap}
 use Rattle.std.specs.BTreeMap as tree

@@ -1,4 +1,4 @@
--- The numbers of types by their names. No public contract cites it.
+-- The numbers of types by their names. Not part of what is promised: no public contract cites this.
 use Rattle.std.specs.Prelude.{ℕ, ◌==◌, ◌≡◌, List}
 use Rattle.std.specs.Borrow.{Bor}
 use Rattle.std.specs.BTreeMap.{BTreeMap}

@@ -1,3 +1,4 @@
+-- The book of the species of a deck.
 use Rattle.std.specs.Prelude.{◌≡◌, ◌≤◌, ◌&&◌, ℕ, Bool, true, not, IsTrue, Option, List, [], ◌∷◌, length, map}
 use Rattle.std.specs.List.{list_any, position_from}
 use Rattle.std.specs.Str.{bytes_eq}
