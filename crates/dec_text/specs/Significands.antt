@@ -16,6 +16,6 @@ pub record Keeps (kept : Significand) (digits : List ℕ) : Type 0 where
   pub dropped : kept.dropped ≡ length digits - 18
   pub fits : kept.digits < 10 ^ kept.count
 
--- The sign and the size of an exponent, where sizes above a cap are not told apart.
+-- The sign and the size of an exponent; all sizes above a cap count as the cap.
 abbrev pub capped : ℕ → Bool × ℕ → Bool × ℕ
 capped cap exponent = (exponent.0, min cap exponent.1)

@@ -2,10 +2,10 @@
 //! numbers, and numbers printed with a fixed number of decimals.
 //!
 //! `split` gives exactly the words of a text, each by its place, on numbered lines; `next_line` gives
-//! the same lines one at a time. `read_decimal`
-//! and `read_whole` take exactly the words of their grammar, with the value that each stands for.
+//! the same lines one at a time. `read_decimal` and `read_whole` take exactly the words of their
+//! grammar, and give the value of each.
 //! `Decimal::scaled` rounds half away from zero. `print_fixed` appends exactly the printed number,
-//! and what it printed is read back. The crate stands on `kmc_base` alone.
+//! and what it printed is read back. The crate uses `kmc_base` alone.
 #![tactic(auto)]
 
 mod decimal;

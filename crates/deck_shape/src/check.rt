@@ -105,7 +105,7 @@ fn has_word_of(bytes: &[u8], rule: &Rule, items: &[Item]) -> bool
     stands(bytes, rule.keyword, items) || has_other(bytes, rule.need, items)
 }
 
-/// A word that has to stand does not.
+/// A required word is missing.
 fn is_missing(bytes: &[u8], rule: &Rule, items: &[Item]) -> bool
     ensures { result ≡ is_missing (map (item_at bytes.now) items.now) rule.now }
 {
@@ -115,7 +115,7 @@ fn is_missing(bytes: &[u8], rule: &Rule, items: &[Item]) -> bool
     }
 }
 
-/// Some word that has to stand in a block does not.
+/// Some required word of a block is missing.
 fn any_is_missing(bytes: &[u8], form: BlockForm, items: &[Item]) -> bool
     ensures { result ≡ list_any (is_missing (map (item_at bytes.now) items.now)) (rules_of form) }
 {

@@ -74,7 +74,7 @@ impl Block {
         first_item(bytes, keyword, self.items.as_slice())
     }
 
-    /// The words behind a keyword, as places in the bytes of its file; `None` where the keyword does not stand.
+    /// The words behind a keyword, as places in the bytes of its file; `None` where the keyword is absent.
     pub fn words_behind(&self, bytes: &[u8], keyword: Keyword) -> Option<&[Span]>
         ensures runs { option_map (λ words. map (run_at bytes.now) words.now) result ≡ runs_behind keyword (block_at bytes.now self.now).items }
         ensures words { option_map (λ words. map (bytes_at bytes.now) words.now) result ≡ words_behind keyword (block_at bytes.now self.now).items }
@@ -85,8 +85,8 @@ impl Block {
         }
     }
 
-    /// The members of the list behind a keyword, as places in the bytes of its file; none where the keyword does not
-    /// stand.
+    /// The members of the list behind a keyword, as places in the bytes of its file; none where the keyword is
+    /// absent.
     pub fn list_in(&self, bytes: &[u8], keyword: Keyword) -> &[Span]
         ensures runs { map (run_at bytes.now) result.now ≡ runs_in keyword (block_at bytes.now self.now).items }
         ensures words { map (bytes_at bytes.now) result.now ≡ list_in keyword (block_at bytes.now self.now).items }
@@ -95,7 +95,7 @@ impl Block {
     }
 
     /// The members of the list behind a keyword, as places in the bytes of its file with the number of the line; none
-    /// where the keyword does not stand.
+    /// where the keyword is absent.
     pub fn names_in(
         &self,
         alloc: Global,

@@ -22,8 +22,8 @@ file_of files Energetics = files.energetics
 file_of files Mechanism = files.mechanism
 file_of files State = files.state
 
--- What loading a file of at most so many bytes may answer, where the folder tells its files: the bytes,
--- Absent exactly where there is none, TooLong exactly where there are more; or it failed or found no memory.
+-- What loading a file of at most so many bytes may answer, if the folder reports its files: the bytes, or Absent only
+-- if there is no file, or TooLong only if there are more; or it failed or found no memory.
 abbrev pub Loads : Option (List ℕ) → ℕ → Result (Vec ℕ Global) LoadFault → Type 0
 Loads file max (Ok bytes) = (file ≡ Some bytes.items) × (length bytes.items ≤ max)
 Loads file max (Err Absent) = file ≡ None

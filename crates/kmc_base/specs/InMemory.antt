@@ -10,7 +10,7 @@ use Rattle.kmc_base.specs.declared.fault_counts.FaultCounts.{FaultCounts}
 use Rattle.kmc_base.specs.declared.ids.FileId.{FileId}
 use Rattle.kmc_base.specs.declared.ids.OutId.{OutId}
 
--- a folder in memory: its files, its outputs as long as it tells them, the room of an output,
+-- a folder in memory: its files, its outputs as long as it reports them, the room of an output,
 -- which calls fail, and its counts of faults
 pub record FolderInMemory : Type 0 where
   pub files : Files
@@ -36,7 +36,7 @@ after_begin out folder = record folder {
   outs = if next_fails folder.begins then folder.outs else option_map (begun out) folder.outs;
 }
 
--- the outputs after a piece is added, told as long as that output stays within its room
+-- the outputs after a piece is added, reported as long as that output stays within its room
 abbrev pub appended_within : ℕ → OutId → List ℕ → Outs → Option Outs
 appended_within room out piece outs =
     if nat_le (length (bytes_of outs out) + length piece) room then Some (appended out piece outs) else None
@@ -49,18 +49,18 @@ after_append out piece folder = record folder {
   outs = if next_fails folder.appends then folder.outs else option_and_then (appended_within folder.room out piece) folder.outs;
 }
 
--- what the folder tells of an output
+-- what the folder reports of an output
 abbrev pub told_out : FolderInMemory → OutId → Option (List ℕ)
 told_out folder out = option_and_then (λ outs. out_of outs out) folder.outs
 
--- a screen in memory: what it has taken as long as it tells it, its room, which calls fail, and its count of faults
+-- a screen in memory: what it has taken as long as it reports that, its room, which calls fail, its count of faults
 pub record SinkInMemory : Type 0 where
   pub taken : Option (List ℕ)
   pub room : ℕ
   pub puts : Numbered
   pub faults : ℕ
 
--- a text with a piece added at its end, told as long as it stays within its room
+-- a text with a piece added at its end, reported as long as it stays within its room
 abbrev pub added_within : ℕ → List ℕ → List ℕ → Option (List ℕ)
 added_within room piece text = if nat_le (length text + length piece) room then Some (text ++ piece) else None
 

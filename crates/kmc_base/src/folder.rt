@@ -30,7 +30,7 @@ pub enum LoadFault {
 /// A count of faults rises only in a call that answers `Failed`, and only that of its file or output. It is at most
 /// 2^64 - 1, and stays there.
 ///
-/// What its files and outputs hold is told optionally: a real directory tells nothing.
+/// It may report what its files and outputs hold, and which loads fail: a real directory reports nothing.
 pub trait Folder {
     /// How often reading each file has failed.
     ghost read_faults: { Self → FileId → ℕ };
@@ -38,22 +38,22 @@ pub trait Folder {
     /// How often beginning or writing each output has failed.
     ghost write_faults: { Self → OutId → ℕ };
 
-    /// The bytes of its input files, where it tells them.
+    /// The bytes of its input files, if it reports them.
     ghost files: { Self → Option Files };
 
-    /// The bytes of its outputs, where it tells them.
+    /// The bytes of its outputs, if it reports them.
     ghost outs: { Self → Option Outs };
 
-    /// Which of its loads fail, by their numbers, and how many were made, where it tells that.
+    /// Which of its loads fail, by their numbers, and how many were made, if it reports that.
     ghost loads: { Self → Option Numbered };
 
     /// Reads a whole file.
     ///
     /// # Errors
     ///
-    /// Where the folder tells its files, `Absent` comes exactly where there is no such file, and
-    /// `TooLong` exactly where it has more than `max` bytes. Where it tells which loads fail, `Failed`
-    /// comes exactly at those.
+    /// If the folder reports its files, `Absent` comes only if there is no such file, and `TooLong` only
+    /// if it has more than `max` bytes. If it reports which loads fail, `Failed` comes at those, and at no
+    /// other.
     fn load(&mut self, alloc: Global, file: FileId, max: usize) -> Result<Vec<u8>, LoadFault>
         ensures answer { IfSome (files self.old) (λ told. Loads (file_of told file) max result) }
         ensures cause { IsErrOf result LoadFault.Failed → Rose (read_faults self.old file) (read_faults self.new file) }

@@ -16,7 +16,7 @@ use crate::output::Output;
 use std::alloc::{AllocError, Global};
 use std::marker::Model;
 
-/// A folder in memory, for tests: it tells its files, and its outputs as long as they stay within
+/// A folder in memory, for tests: it reports its files, and its outputs as long as they stay within
 /// the room reserved for them.
 #[derive(Debug, Drop)]
 pub struct MemoryFolder {
@@ -112,7 +112,7 @@ impl MemoryFolder {
         Ok(())
     }
 
-    /// The bytes of an output. `None` where there is no such output, or the folder has stopped telling.
+    /// The bytes of an output. `None` where there is no such output, or the folder has stopped reporting.
     pub fn output(&self, out: OutId) -> Option<&[u8]>
         ensures { option_copied result ≡ told_out self.now out }
     {

@@ -10,7 +10,7 @@ use crate::sink::Sink;
 use std::alloc::Global;
 use std::marker::Model;
 
-/// A screen in memory, for tests: it tells what it has taken as long as that stays within its room.
+/// A screen in memory, for tests: it reports what it has taken as long as that stays within its room.
 #[derive(Debug, Drop)]
 pub struct MemorySink {
     text: Vec<u8>,
@@ -63,7 +63,7 @@ impl MemorySink {
         }
     }
 
-    /// What it has taken. `None` where it has stopped telling.
+    /// What it has taken. `None` where it has stopped reporting.
     pub fn text(&self) -> Option<&[u8]>
         ensures { option_copied result ≡ self.now.taken }
     {

@@ -6,12 +6,12 @@ use crate::error::Failed;
 
 /// The screen that a run prints to.
 ///
-/// What it has taken is told optionally: a real terminal tells nothing.
+/// It may report what it has taken: a real terminal reports nothing.
 pub trait Sink {
     /// How often it has failed.
     ghost faults: { Self → ℕ };
 
-    /// The bytes that it has taken, where it tells them.
+    /// The bytes that it has taken, if it reports them.
     ghost taken: { Self → Option (List ℕ) };
 
     /// Prints bytes, after those that it has taken.

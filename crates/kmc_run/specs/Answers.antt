@@ -53,7 +53,7 @@ abbrev pub failed_write : Status → Option OutId
 failed_write (WriteFault out) = Some out
 failed_write status = None
 
--- What a run may answer, by what its files stand for. A deck is run: the answer is Done, a fault of reading or writing,
+-- What a run may answer, by what its files give. A deck is run: the answer is Done, a fault of reading or writing,
 -- or out of memory. Files with a fault are refused with the first, unless reading failed or memory was short.
 abbrev pub MayAnswer : Result PlainDeck Fault → Status → Type 0
 MayAnswer (Ok deck) BadWords = ⊥

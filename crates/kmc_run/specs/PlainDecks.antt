@@ -1,4 +1,4 @@
--- The deck that four texts stand for, or its first fault. A file is built if kmc takes it today.
+-- The deck that four texts give, or its first fault. A file is built if kmc takes it today.
 use Rattle.std.specs.Prelude.{◌≡◌, ℕ, ◌*◌, ◌^◌, ◌&&◌, Bool, true, false, not, List, [], ◌∷◌, map, Option, None, Some, Result, Ok, Err}
 use Rattle.std.specs.Prelude.{if◌then◌else◌, is_none, length, pos}
 use Rattle.deck_shape.specs.Blocks.{BlockLines}

@@ -52,11 +52,11 @@ abbrev pub Stops : List Write → DriveFault → Outs → Outs → Type 0
 Stops writes (WriteFault out) then now = FailsAt writes out then now
 Stops writes OutOfMemory then now = StopsAfter writes then now
 
--- All of the writes were done, as far as the outputs are told.
+-- All of the writes were done, as far as the outputs are reported.
 abbrev pub Done : List Write → Option Outs → Option Outs → Type 0
 Done writes before after = Tells before after (λ then now. now ≡ all_written writes then)
 
--- The writes ended in this fault, as far as the outputs are told.
+-- The writes ended in this fault, as far as the outputs are reported.
 abbrev pub Ended : List Write → DriveFault → Option Outs → Option Outs → Type 0
 Ended writes fault before after = Tells before after (Stops writes fault)
 

@@ -76,12 +76,12 @@ pub fn run_program<R: Threads + Sync, F: Folder, S: Sink, G: Gate + Sync>(
     _screen: &mut S,
     gate: &G,
 ) -> Status
-    // It answers so if and only if the words are no command that it takes.
+    // It answers BadWords if and only if the words are no command that it takes.
     ensures words { (result ≡ Status.BadWords) ↔ (is_run_command (map string_bytes words.now) ≡ false) }
-    // Which answers there may be, and what is in the outputs then, by the deck that the files stand for.
+    // Which answers there may be, and what is in the outputs then, by the deck that the files give.
     ensures answer { is_run_command (map string_bytes words.now) ≡ true → IfSome (F.files folder.old) (λ told. MayAnswer (deck_of_files told) result) }
     ensures outs { is_run_command (map string_bytes words.now) ≡ true → IfSome (F.files folder.old) (λ told. Leaves (deck_of_files told) result (F.outs folder.old) (F.outs folder.new)) }
-    // An answer that nothing was run keeps the outputs, whether or not the files are told.
+    // An answer that nothing was run keeps the outputs, whether or not the files are reported.
     ensures kept { KeepsOuts result (F.outs folder.old) (F.outs folder.new) }
     // A fault of reading or writing is answered if and only if it came in this call, and it is the only one.
     ensures reads { OnlyFailed (failed_read result) (F.read_faults folder.old) (F.read_faults folder.new) }

@@ -1,4 +1,4 @@
--- Configurations (Stamatakis and Vlachos 2011): which dentate of which adsorbate stands on each site of the lattice.
+-- Configurations (Stamatakis and Vlachos 2011): which dentate of which adsorbate is on each site of the lattice.
 -- An adsorbate is named by its home, the site of its dentate 1.
 use Rattle.std.specs.Prelude.{ℕ, ◌≡◌, ◌≤◌, ◌+◌, ◌*◌, ◌==◌, Bool, false, List, [], ◌∷◌, length, map, slice_index, slice_index_or, if◌then◌else◌}
 use Rattle.std.specs.List.{range_with_len}

@@ -6,9 +6,9 @@ use kmc_base::{SiteId, SpeciesId};
 /// The state of a site.
 #[derive(Clone, Copy, Debug, PartialEq, Eq, Hash)]
 pub enum State {
-    /// No adsorbate stands there.
+    /// No adsorbate is there.
     Vacant,
-    /// A dentate of an adsorbate stands there.
+    /// A dentate of an adsorbate is there.
     Holds {
         /// The species of the adsorbate.
         species: SpeciesId,

@@ -26,7 +26,7 @@ pub record IsDefault (words : List (List ℕ)) : Type 0 where
   pub three : length words ≡ 3
   pub no_fault : default_kind words ≡ None
 
--- so have those behind `rectangular_periodic` where it stands, else those behind `hexagonal_periodic`
+-- so have those behind `rectangular_periodic` where the file has it, else those behind `hexagonal_periodic`
 abbrev pub IsDefaultOf : Option (List (List ℕ)) → List (List ℕ) → Type 0
 IsDefaultOf None other = IsDefault other
 IsDefaultOf (Some words) other = IsDefault words
@@ -60,7 +60,7 @@ pub record IsExplicit (sizes : Sizes) (names : List (List ℕ)) (rows : List Wor
   pub type_names : AreTypeNames sizes.types names
   pub sound_rows : first_row_fault sizes.sites rows ≡ None
 
--- the words and rows that make the lattice have no fault; the last four are kinds of no lattice
+-- the words and rows that make the lattice have no fault; the last four are the forms of no lattice
 abbrev pub AreFaultless : BlockForm → List ItemLines → Type 0
 AreFaultless DefaultChoice items = HasDefault items
 AreFaultless PeriodicCell items = IsCell (sizes_in items) (list_in SiteTypeNames items) (list_in SiteTypes items) (rows_in NeighboringStructure items)

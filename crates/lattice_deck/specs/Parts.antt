@@ -34,7 +34,7 @@ pub record LatticeValues : Type 0 where
   pub type_names : List (List ℕ)
   pub type_words : List NameWord
 
--- what a part of a deck stands for in its text
+-- what a part of a deck says in its text
 abbrev pub values_at : List ℕ → LatticePart → LatticeValues
 values_at text part = record {
   lattice = part.graph;
@@ -91,7 +91,7 @@ explicit_values items = record {
   type_words = map type_on (rows_in LatticeStructure items);
 }
 
--- the values of a block, by its kind; the last four are the kinds of no lattice
+-- the values of a block, by its form; the last four are the forms of no lattice
 abbrev pub values_of : BlockForm → List ItemLines → LatticeValues
 values_of DefaultChoice items = default_values items
 values_of PeriodicCell items = cell_values items

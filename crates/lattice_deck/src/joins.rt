@@ -43,7 +43,7 @@ fn first_dash(word: &[u8]) -> Option<usize>
     word.iter().position(|b| *b == b'-')
 }
 
-/// What stands before the first `-` of a word, and what stands behind it.
+/// What is before the first `-` of a word, and what is behind it.
 fn split_edge(word: &[u8]) -> (&[u8], &[u8])
     ensures before { result.0.now ≡ before_first is_dash word.now }
     ensures after { result.1.now ≡ after_first is_dash word.now }

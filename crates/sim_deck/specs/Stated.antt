@@ -1,4 +1,4 @@
--- What a simulation file states is the value: no default stands for a stated number, list, limit or sampling.
+-- What a simulation file states is the value: no default replaces a stated number, list, limit or sampling.
 use Rattle.std.specs.Prelude.{◌≡◌, ◌⊎◌, ℕ, ℤ, pos, List, [], ◌∷◌, Option, None, Some, IsSomeAnd, MatchOption, codes, if◌then◌else◌, length, map}
 use Rattle.std.specs.Option.{option_map}
 use Rattle.std.specs.Result.{result_ok}
@@ -53,9 +53,9 @@ WritesSampling (Event n) words =
     ((words ≡ codes "on" ∷ codes "event" ∷ []) × (n ≡ 1)) ⊎ IsOnEvery (codes "event") (λ word. whole_written word ≡ Some n) words
 WritesSampling (Time d) words = IsOnEvery (codes "time") (λ word. scaled_written 18 word ≡ Some (pos d)) words
 
--- Behind a keyword that stands is the word that writes its value, or the words of its sampling; the words of a list
+-- Behind a keyword that the file has is the word that writes its value, or the words of its sampling; the words of a list
 -- write its values one by one. What is not stated has its default: the seed 0, no species of a kind, 2^40 - 1 events, no
--- limit on time, no sampling, and no member of a list. A temperature and a pressure stand.
+-- limit on time, no sampling, and no member of a list. A temperature and a pressure are always stated.
 pub record StatesValues (items : List ItemLines) (values : SimValues) : Type 0 where
   pub seed : MatchOption (words_behind RandomSeed items) (values.plan.seed ≡ 0) (Writes whole_written values.plan.seed)
   pub temperature : IsSomeAnd (words_behind Temperature items) (Writes (scaled_written 3) (pos values.temperature))

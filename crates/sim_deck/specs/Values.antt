@@ -30,7 +30,7 @@ pub record SimValues : Type 0 where
   pub surface : List NameWord
   pub dentates : List ℕ
 
--- what a part of a deck stands for in its text
+-- what a part of a deck says in its text
 abbrev pub values_at : List ℕ → SimPart → SimValues
 values_at text part = record {
   plan = part.plan;

@@ -2,7 +2,7 @@
 //!
 //! `read` gives exactly the values of a file of the right shape, or exactly its first fault of a value. The forms of
 //! the words are tables of data, which the definitions read too. The keywords and their meanings are those of the Zacros
-//! manual; the units, ranges and defaults are kmc's own. It stands on deck_shape, dec_text and kmc_base.
+//! manual; the units, ranges and defaults are kmc's own. It uses deck_shape, dec_text and kmc_base.
 #![tactic(auto)]
 
 mod faults;

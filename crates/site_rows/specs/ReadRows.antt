@@ -4,7 +4,7 @@ use Rattle.dec_text.specs.Spans.{bytes_at}
 use Rattle.site_rows.specs.SiteRows.{SiteRow}
 use Rattle.site_rows.specs.declared.row.ReadRow.{ReadRow}
 
--- what a row that is read stands for in its text
+-- what a row that is read says in its text
 abbrev pub row_at : List ℕ → ReadRow → SiteRow
 row_at text row = record {
   site = row.site;

@@ -4,7 +4,7 @@
 //! `first_fault` gives exactly the first fault of the rows, and `graph_of` exactly the lattice of rows without one.
 //! `type_of` gives the type of a type word, and a `TypeIndex` the types of many. `row_words` gives the words of a row,
 //! and `is_no_site` says whether a number is that of no site; periodic cells are read with these too. The form of a row
-//! is that of the Zacros manual; the faults, their order and the limits are kmc's own. It stands on dec_text, kmc_base
+//! is that of the Zacros manual; the faults, their order and the limits are kmc's own. It uses dec_text, kmc_base
 //! and lattice_core, and knows nothing of blocks or of the numbers of kinds of faults.
 #![tactic(auto)]
 

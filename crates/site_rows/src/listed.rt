@@ -110,7 +110,7 @@ fn place_rows(
 }
 
 /// The lattice of rows that have no fault, one for each of `sites` sites, of which there are 1 to 65,536. The rows number
-/// them from 1 and stand in any order; the graph numbers them from 0. `names` are the names of the site types in order,
+/// them from 1, in any order; the graph numbers them from 0. `names` are the names of the site types in order,
 /// at most 1,000; types are numbered from 1, and a site whose type word is no type has type 0.
 pub fn graph_of(
     alloc: Global,
