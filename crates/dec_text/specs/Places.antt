@@ -19,7 +19,8 @@ is_cut Blank = is_blank
 abbrev pub lines_below : List ℕ → LinePlace → List WordLine
 lines_below text place = lines_from place.number (runs is_line_feed place.start (slice_range text place.start (length text)))
 
--- a line is the first of those from a place on that have a word, and the others are below the next place; or there is none
+-- a line is the first of those from a place on that have a word, and the others are below the next place; or there is
+-- none, and the next place is the same
 abbrev pub IsNextLine : List ℕ → LinePlace → LinePlace → Option Line → Type 0
-IsNextLine text place next None = lines_below text place ≡ []
+IsNextLine text place next None = (lines_below text place ≡ []) × (next ≡ place)
 IsNextLine text place next (Some line) = lines_below text place ≡ line_at text line ∷ lines_below text next

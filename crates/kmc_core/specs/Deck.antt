@@ -6,6 +6,7 @@ use Rattle.kmc_base.specs.declared.limits.TheConstants.{MAX_DENTATES, MAX_ENERGY
 use Rattle.kmc_core.specs.declared.deck.PlainDeck.{PlainDeck}
 use Rattle.kmc_core.specs.declared.deck.PlainProcess.{PlainProcess}
 use Rattle.lattice_core.specs.Lattice.{IsLattice}
+use Rattle.pattern_list.specs.declared.code.TheConstants.{MAX_PROCESSES}
 use Rattle.pattern_types.specs.Parts.{PatternParts}
 use Rattle.pattern_types.specs.Soundness.{IsSound as IsPattern}
 use Rattle.pattern_types.specs.declared.wanted.Wanted.{Wanted}
@@ -46,5 +47,5 @@ pub record IsSound (deck : PlainDeck) : Type 0 where
   pub plan : IsSoundPlan deck.plan
   pub gas : deck.gas ≡ length deck.book.gas
   pub dentates : All (λ d. (1 ≤ d) × (d ≤ MAX_DENTATES)) deck.book.dentates
-  pub few_processes : length deck.processes ≤ 1024
+  pub few_processes : length deck.processes ≤ MAX_PROCESSES
   pub processes : AllByRecursion (IsSoundProcess (dentates_in deck.book)) deck.processes
