@@ -98,163 +98,120 @@ struct Run<'a> {
     stop: Stop,
 }
 
-/// A step on one site.
-fn step<'a>(
-    before: &'a [Wanted],
-    after: &'a [Wanted],
-    factor: Option<i64>,
-    activation: i64,
-) -> Step<'a> {
-    Step {
-        edges: &[],
-        before,
-        after,
-        factor,
-        activation,
-    }
-}
+/// A step that changes nothing.
+const STAY: Step<'static> = Step {
+    edges: &[],
+    before: FREE,
+    after: FREE,
+    factor: AT_ONCE,
+    activation: 0,
+};
 
-/// A deck of adsorbates on one site each, on four sites without neighbours.
-fn on_four_sites<'a>(steps: &'a [Step<'a>], seed: u64, max_steps: u64) -> SmallDeck<'a> {
-    SmallDeck {
-        neighbours: FOUR_SITES,
-        species: Species::OneSite,
-        steps,
-        seed,
-        max_steps,
-        max_time: None,
-        specnum: Sampling::Off,
-    }
-}
+/// Adsorption at once.
+const FILL: Step<'static> = Step {
+    edges: &[],
+    before: FREE,
+    after: ON_A,
+    factor: AT_ONCE,
+    activation: 0,
+};
 
-/// A deck of dimers.
-fn of_dimers<'a>(
-    neighbours: &'a [&'a [SiteId]],
-    steps: &'a [Step<'a>],
-    max_steps: u64,
-) -> SmallDeck<'a> {
-    SmallDeck {
-        neighbours,
-        species: Species::Dimer,
-        steps,
-        seed: 1,
-        max_steps,
-        max_time: None,
-        specnum: Sampling::Off,
-    }
-}
+/// Adsorption without a rate.
+const NEVER: Step<'static> = Step {
+    edges: &[],
+    before: FREE,
+    after: ON_A,
+    factor: None,
+    activation: 0,
+};
 
-/// What a run reports at its event.
-fn report(closed: &Closed) -> Report {
-    let counts = [closed.counts_of(A), closed.counts_of(B)];
-    (closed.time(), counts, closed.least())
-}
+/// One species turns into the other at once.
+const TURN: Step<'static> = Step {
+    edges: &[],
+    before: ON_A,
+    after: ON_B,
+    factor: AT_ONCE,
+    activation: 0,
+};
 
-/// Lists the instances of an open event and closes it, which cannot be closed before.
-fn listed(rt: &impl Abort, alloc: Global, open: Unclosed) -> Result<Closed, Fail> {
-    assert_eq!(rt; open.undone(), 1);
-    let Err((mut open, undone)) = open.close() else {
-        return Err("closed with the listing undone")?;
-    };
-    assert_eq!(rt; undone.mask, 1);
-    open.rescan(alloc)?;
-    assert_eq!(rt; open.undone(), 0);
-    Ok(open.close()?)
-}
+/// Adsorption with an activation energy.
+const SLOW_FILL: Step<'static> = Step {
+    edges: &[],
+    before: FREE,
+    after: ON_A,
+    factor: USUAL,
+    activation: 1_000_000_000,
+};
 
-/// Follows a run to its end, and checks what it reports on the way and why it ends.
-fn follow(rt: &impl Abort, alloc: Global, run: &Run) -> Result<(), Fail> {
-    let mut closed = Closed::start(alloc, made(alloc, &run.deck)?)?;
-    for (event, expected) in run.reports.iter().enumerate() {
-        assert_eq!(rt; closed.event(), event as u64);
-        assert_eq!(rt; report(&closed), *expected);
-        match closed.fire() {
-            Fired::Next(open) => closed = listed(rt, alloc, open)?,
-            Fired::Ended(ended, stop) => {
-                assert_eq!(rt; report(&ended), *expected);
-                assert_eq!(rt; ended.deck().plan.max_steps, run.deck.max_steps);
-                assert_eq!(rt; event, run.reports.len().wrapping_sub(1));
-                assert_eq!(rt; stop, run.stop);
-                return Ok(());
-            }
-        }
-    }
-    Err("the run goes on")?
-}
+/// Desorption with an activation energy.
+const SLOW_LEAVE: Step<'static> = Step {
+    edges: &[],
+    before: ON_A,
+    after: FREE,
+    factor: USUAL,
+    activation: 1_050_000_000,
+};
 
-/// Follows some runs, one after another.
-fn follow_all(rt: &impl Abort, alloc: Global, runs: &[Run]) -> Result<(), Fail> {
-    for run in runs {
-        follow(rt, alloc, run)?;
-    }
-    Ok(())
-}
+/// A dimer adsorbs on two vacant neighbours.
+const ADSORB: Step<'static> = Step {
+    edges: &[(1, 2)],
+    before: &[Wanted::Vacant, Wanted::Vacant],
+    after: &[FIRST, LAST],
+    factor: AT_ONCE,
+    activation: 0,
+};
 
-#[test]
-fn runs_of_one_species(rt: HostRuntime) -> Result<(), Fail> {
-    let stay = [step(FREE, FREE, AT_ONCE, 0)];
-    let adsorb = [step(FREE, ON_A, AT_ONCE, 0)];
-    let never = [step(FREE, ON_A, None, 0), step(FREE, ON_A, AT_ONCE, 0)];
-    let runs = [
-        // The instance that fired is there again, and is drawn again; the others keep their times.
-        Run {
-            deck: on_four_sites(&stay, 1, 5),
-            reports: &[
-                (0, [0, 0], Some((1, 0))),
-                (1, [0, 0], Some((1, SITE))),
-                (1, [0, 0], Some((1, 2 * SITE))),
-                (1, [0, 0], Some((1, 3 * SITE))),
-                (1, [0, 0], Some((2, 0))),
-                (2, [0, 0], Some((2, SITE))),
-            ],
-            stop: Stop::Steps,
-        },
-        // The sites are taken one by one, and then nothing is left.
-        Run {
-            deck: on_four_sites(&adsorb, 1, 10),
-            reports: &[
-                (0, [0, 0], Some((1, 0))),
-                (1, [1, 0], Some((1, SITE))),
-                (1, [2, 0], Some((1, 2 * SITE))),
-                (1, [3, 0], Some((1, 3 * SITE))),
-                (1, [4, 0], None),
-            ],
-            stop: Stop::Still,
-        },
-        // A step without a rate never fires. The greatest number of events is looked at first.
-        Run {
-            deck: on_four_sites(&never, 1, 4),
-            reports: &[
-                (0, [0, 0], Some((1, PROCESS))),
-                (1, [1, 0], Some((1, PROCESS + SITE))),
-                (1, [2, 0], Some((1, PROCESS + 2 * SITE))),
-                (1, [3, 0], Some((1, PROCESS + 3 * SITE))),
-                (1, [4, 0], None),
-            ],
-            stop: Stop::Steps,
-        },
-    ];
-    follow_all(&rt, rt.alloc(), &runs)
-}
+/// A dimer desorbs as a whole.
+const DESORB: Step<'static> = Step {
+    edges: &[(1, 2)],
+    before: &[FIRST, LAST],
+    after: &[Wanted::Vacant, Wanted::Vacant],
+    factor: AT_ONCE,
+    activation: 0,
+};
 
-#[test]
-fn runs_of_two_species(rt: HostRuntime) -> Result<(), Fail> {
-    let steps = [step(FREE, ON_A, AT_ONCE, 0), step(ON_A, ON_B, AT_ONCE, 0)];
-    let run = Run {
-        deck: on_four_sites(&steps, 1, 6),
-        reports: &[
-            (0, [0, 0], Some((1, 0))),
-            (1, [1, 0], Some((1, SITE))),
-            (1, [2, 0], Some((1, 2 * SITE))),
-            (1, [3, 0], Some((1, 3 * SITE))),
-            (1, [4, 0], Some((2, PROCESS))),
-            (2, [3, 1], Some((2, PROCESS + SITE))),
-            (2, [2, 2], Some((2, PROCESS + 2 * SITE))),
-        ],
-        stop: Stop::Steps,
-    };
-    follow(&rt, rt.alloc(), &run)
-}
+/// A dimer adsorbs on vertices 3 and 2 beside a vacant vertex 1. The vertices are placed in the order 1, 3, 2.
+const ADSORB_BESIDE: Step<'static> = Step {
+    edges: &[(1, 3), (2, 3)],
+    before: &[Wanted::Vacant, Wanted::Vacant, Wanted::Vacant],
+    after: &[Wanted::Vacant, LAST, FIRST],
+    factor: AT_ONCE,
+    activation: 0,
+};
+
+/// A dimer walks: its dentate 1 follows to the site of dentate 2, which goes on to a vacant site.
+const WALK: Step<'static> = Step {
+    edges: &[(1, 3), (2, 3)],
+    before: &[FIRST, Wanted::Vacant, LAST],
+    after: &[Wanted::Vacant, LAST, FIRST],
+    factor: AT_ONCE,
+    activation: 0,
+};
+
+/// A deck on four sites without neighbours.
+const ON_FOUR_SITES: SmallDeck<'static> = SmallDeck {
+    neighbours: FOUR_SITES,
+    species: Species::OneSite,
+    steps: &[],
+    seed: 1,
+    max_steps: 0,
+    max_time: None,
+    specnum: Sampling::Off,
+};
+
+/// A deck whose waits are drawn.
+const WAITING: SmallDeck<'static> = SmallDeck {
+    steps: &[SLOW_FILL, SLOW_LEAVE],
+    seed: 258,
+    max_steps: 8,
+    ..ON_FOUR_SITES
+};
+
+/// The same deck, with one event.
+const ONE_EVENT: SmallDeck<'static> = SmallDeck {
+    max_steps: 1,
+    ..WAITING
+};
 
 /// The run of drawn waits: its expected times are those of a plain implementation of the rules in another language.
 const DRAWN: &[Report] = &[
@@ -301,135 +258,249 @@ const DRAWN: &[Report] = &[
     ),
 ];
 
-#[test]
-fn drawn_waits_and_early_stops(rt: HostRuntime) -> Result<(), Fail> {
-    let steps = [
-        step(FREE, ON_A, USUAL, 1_000_000_000),
-        step(ON_A, FREE, USUAL, 1_050_000_000),
-    ];
-    let whole = on_four_sites(&steps, 258, 8);
-    let short = SmallDeck {
-        max_steps: 1,
-        ..whole
-    };
-    let runs = [
-        Run {
-            deck: whole,
-            reports: DRAWN,
-            stop: Stop::Steps,
+/// Its first two events, and the first alone.
+const DRAWN_TWO: &[Report] = &[
+    (0, [0, 0], Some((58_394_940_709_334, 0))),
+    (
+        58_394_940_709_334,
+        [1, 0],
+        Some((226_773_691_027_354, 3 * SITE)),
+    ),
+];
+
+const DRAWN_ONE: &[Report] = &[(0, [0, 0], Some((58_394_940_709_334, 0)))];
+
+/// Runs of adsorbates on one site each.
+const ONE_SITE_RUNS: &[Run<'static>] = &[
+    // The instance that fired is there again, and is drawn again; the others keep their times.
+    Run {
+        deck: SmallDeck {
+            steps: &[STAY],
+            max_steps: 5,
+            ..ON_FOUR_SITES
         },
-        // The samples are looked at before the greatest number of events: 10,000,001 are due, and then 9,999,999.
-        Run {
-            deck: SmallDeck {
-                specnum: Sampling::Time(5_839_494),
-                ..short
-            },
-            reports: &DRAWN[..2],
-            stop: Stop::Samples,
+        reports: &[
+            (0, [0, 0], Some((1, 0))),
+            (1, [0, 0], Some((1, SITE))),
+            (1, [0, 0], Some((1, 2 * SITE))),
+            (1, [0, 0], Some((1, 3 * SITE))),
+            (1, [0, 0], Some((2, 0))),
+            (2, [0, 0], Some((2, SITE))),
+        ],
+        stop: Stop::Steps,
+    },
+    // The sites are taken one by one, and then nothing is left.
+    Run {
+        deck: SmallDeck {
+            steps: &[FILL],
+            max_steps: 10,
+            ..ON_FOUR_SITES
         },
-        Run {
-            deck: SmallDeck {
-                specnum: Sampling::Time(5_839_495),
-                ..short
-            },
-            reports: &DRAWN[..2],
-            stop: Stop::Steps,
+        reports: &[
+            (0, [0, 0], Some((1, 0))),
+            (1, [1, 0], Some((1, SITE))),
+            (1, [2, 0], Some((1, 2 * SITE))),
+            (1, [3, 0], Some((1, 3 * SITE))),
+            (1, [4, 0], None),
+        ],
+        stop: Stop::Still,
+    },
+    // A step without a rate never fires. The greatest number of events is looked at first.
+    Run {
+        deck: SmallDeck {
+            steps: &[NEVER, FILL],
+            max_steps: 4,
+            ..ON_FOUR_SITES
         },
-        // An event at the end of time fires, and one behind it does not.
-        Run {
-            deck: SmallDeck {
-                max_time: Some(58_394_940_709_334),
-                ..whole
-            },
-            reports: &DRAWN[..2],
-            stop: Stop::Horizon,
+        reports: &[
+            (0, [0, 0], Some((1, PROCESS))),
+            (1, [1, 0], Some((1, PROCESS + SITE))),
+            (1, [2, 0], Some((1, PROCESS + 2 * SITE))),
+            (1, [3, 0], Some((1, PROCESS + 3 * SITE))),
+            (1, [4, 0], None),
+        ],
+        stop: Stop::Steps,
+    },
+    // An adsorbate of one species turns into one of the other.
+    Run {
+        deck: SmallDeck {
+            steps: &[FILL, TURN],
+            max_steps: 6,
+            ..ON_FOUR_SITES
         },
-        Run {
-            deck: SmallDeck {
-                max_time: Some(58_394_940_709_333),
-                ..whole
-            },
-            reports: &DRAWN[..1],
-            stop: Stop::Horizon,
+        reports: &[
+            (0, [0, 0], Some((1, 0))),
+            (1, [1, 0], Some((1, SITE))),
+            (1, [2, 0], Some((1, 2 * SITE))),
+            (1, [3, 0], Some((1, 3 * SITE))),
+            (1, [4, 0], Some((2, PROCESS))),
+            (2, [3, 1], Some((2, PROCESS + SITE))),
+            (2, [2, 2], Some((2, PROCESS + 2 * SITE))),
+        ],
+        stop: Stop::Steps,
+    },
+];
+
+/// A run of drawn waits, and the same run stopped otherwise.
+const DRAWN_RUNS: &[Run<'static>] = &[
+    Run {
+        deck: WAITING,
+        reports: DRAWN,
+        stop: Stop::Steps,
+    },
+    // The samples are looked at before the greatest number of events: 10,000,001 are due, and then 9,999,999.
+    Run {
+        deck: SmallDeck {
+            specnum: Sampling::Time(5_839_494),
+            ..ONE_EVENT
         },
-    ];
-    follow_all(&rt, rt.alloc(), &runs)
+        reports: DRAWN_TWO,
+        stop: Stop::Samples,
+    },
+    Run {
+        deck: SmallDeck {
+            specnum: Sampling::Time(5_839_495),
+            ..ONE_EVENT
+        },
+        reports: DRAWN_TWO,
+        stop: Stop::Steps,
+    },
+    // An event at the end of time fires, and one behind it does not.
+    Run {
+        deck: SmallDeck {
+            max_time: Some(58_394_940_709_334),
+            ..WAITING
+        },
+        reports: DRAWN_TWO,
+        stop: Stop::Horizon,
+    },
+    Run {
+        deck: SmallDeck {
+            max_time: Some(58_394_940_709_333),
+            ..WAITING
+        },
+        reports: DRAWN_ONE,
+        stop: Stop::Horizon,
+    },
+];
+
+/// Runs of dimers.
+const DIMER_RUNS: &[Run<'static>] = &[
+    // A dimer is counted once, by its dentate 1.
+    Run {
+        deck: SmallDeck {
+            neighbours: SQUARE,
+            species: Species::Dimer,
+            steps: &[ADSORB],
+            max_steps: 10,
+            ..ON_FOUR_SITES
+        },
+        reports: &[
+            (0, [0, 0], Some((1, 0))),
+            (1, [1, 0], Some((1, 2 * SITE + SECOND))),
+            (1, [2, 0], None),
+        ],
+        stop: Stop::Still,
+    },
+    // On the ring the sites 0, 3, 2 come before 0, 4, 1, and their code after it.
+    Run {
+        deck: SmallDeck {
+            neighbours: RING,
+            species: Species::Dimer,
+            steps: &[ADSORB_BESIDE, DESORB],
+            max_steps: 5,
+            ..ON_FOUR_SITES
+        },
+        reports: &[
+            (0, [0, 0], Some((1, THIRD))),
+            (1, [1, 0], Some((1, SECOND + THIRD))),
+            (1, [2, 0], Some((2, PROCESS + SITE + SECOND))),
+            (2, [1, 0], Some((2, PROCESS + 2 * SITE + SECOND))),
+            (2, [0, 0], Some((3, THIRD))),
+            (3, [1, 0], Some((3, SECOND + THIRD))),
+        ],
+        stop: Stop::Steps,
+    },
+    // A dimer walks round a triangle.
+    Run {
+        deck: SmallDeck {
+            neighbours: TRIANGLE,
+            species: Species::Dimer,
+            steps: &[ADSORB, WALK],
+            max_steps: 4,
+            ..ON_FOUR_SITES
+        },
+        reports: &[
+            (0, [0, 0], Some((1, 0))),
+            (1, [1, 0], Some((2, PROCESS + THIRD))),
+            (2, [1, 0], Some((3, PROCESS + SITE + SECOND))),
+            (3, [1, 0], Some((4, PROCESS + 2 * SITE))),
+            (4, [1, 0], Some((5, PROCESS + THIRD))),
+        ],
+        stop: Stop::Steps,
+    },
+];
+
+/// Checks what a run reports at its event.
+fn check_report(rt: &impl Abort, closed: &Closed, expected: &Report) {
+    let (time, counts, next) = *expected;
+    assert_eq!(rt; closed.time(), time);
+    assert_eq!(rt; closed.counts_of(A), counts[0]);
+    assert_eq!(rt; closed.counts_of(B), counts[1]);
+    assert_eq!(rt; closed.least(), next);
 }
 
-/// A dimer adsorbs on two vacant neighbours.
-const ADSORB: Step<'static> = Step {
-    edges: &[(1, 2)],
-    before: &[Wanted::Vacant, Wanted::Vacant],
-    after: &[FIRST, LAST],
-    factor: AT_ONCE,
-    activation: 0,
-};
+/// Lists the instances of an open event and closes it, which cannot be closed before.
+fn listed(rt: &impl Abort, alloc: Global, open: Unclosed) -> Result<Closed, Fail> {
+    assert_eq!(rt; open.undone(), 1);
+    let Err((mut open, undone)) = open.close() else {
+        return Err("closed with the listing undone")?;
+    };
+    assert_eq!(rt; undone.mask, 1);
+    open.rescan(alloc)?;
+    assert_eq!(rt; open.undone(), 0);
+    Ok(open.close()?)
+}
 
-/// A dimer desorbs as a whole.
-const DESORB: Step<'static> = Step {
-    edges: &[(1, 2)],
-    before: &[FIRST, LAST],
-    after: &[Wanted::Vacant, Wanted::Vacant],
-    factor: AT_ONCE,
-    activation: 0,
-};
+/// Follows a run to its end, and checks what it reports on the way and why it ends.
+fn follow(rt: &impl Abort, alloc: Global, run: &Run) -> Result<(), Fail> {
+    let mut closed = Closed::start(alloc, made(alloc, &run.deck)?)?;
+    for (event, expected) in run.reports.iter().enumerate() {
+        assert_eq!(rt; closed.event(), event as u64);
+        check_report(rt, &closed, expected);
+        match closed.fire() {
+            Fired::Next(open) => closed = listed(rt, alloc, open)?,
+            Fired::Ended(ended, stop) => {
+                check_report(rt, &ended, expected);
+                assert_eq!(rt; ended.deck().plan.max_steps, run.deck.max_steps);
+                assert_eq!(rt; event, run.reports.len().wrapping_sub(1));
+                assert_eq!(rt; stop, run.stop);
+                return Ok(());
+            }
+        }
+    }
+    Err("the run goes on")?
+}
 
-/// A dimer adsorbs on vertices 3 and 2 beside a vacant vertex 1. The vertices are placed in the order 1, 3, 2.
-const ADSORB_BESIDE: Step<'static> = Step {
-    edges: &[(1, 3), (2, 3)],
-    before: &[Wanted::Vacant, Wanted::Vacant, Wanted::Vacant],
-    after: &[Wanted::Vacant, LAST, FIRST],
-    factor: AT_ONCE,
-    activation: 0,
-};
+/// Follows some runs, one after another.
+fn follow_all(rt: &impl Abort, alloc: Global, runs: &[Run]) -> Result<(), Fail> {
+    for run in runs {
+        follow(rt, alloc, run)?;
+    }
+    Ok(())
+}
 
-/// A dimer walks: its dentate 1 follows to the site of dentate 2, which goes on to a vacant site.
-const WALK: Step<'static> = Step {
-    edges: &[(1, 3), (2, 3)],
-    before: &[FIRST, Wanted::Vacant, LAST],
-    after: &[Wanted::Vacant, LAST, FIRST],
-    factor: AT_ONCE,
-    activation: 0,
-};
+#[test]
+fn runs_of_adsorbates_on_one_site(rt: HostRuntime) -> Result<(), Fail> {
+    follow_all(&rt, rt.alloc(), ONE_SITE_RUNS)
+}
+
+#[test]
+fn runs_of_drawn_waits(rt: HostRuntime) -> Result<(), Fail> {
+    follow_all(&rt, rt.alloc(), DRAWN_RUNS)
+}
 
 #[test]
 fn runs_of_dimers(rt: HostRuntime) -> Result<(), Fail> {
-    let runs = [
-        // A dimer is counted once, by its dentate 1.
-        Run {
-            deck: of_dimers(SQUARE, &[ADSORB], 10),
-            reports: &[
-                (0, [0, 0], Some((1, 0))),
-                (1, [1, 0], Some((1, 2 * SITE + SECOND))),
-                (1, [2, 0], None),
-            ],
-            stop: Stop::Still,
-        },
-        // On the ring the sites 0, 3, 2 come before 0, 4, 1, and their code after it.
-        Run {
-            deck: of_dimers(RING, &[ADSORB_BESIDE, DESORB], 5),
-            reports: &[
-                (0, [0, 0], Some((1, THIRD))),
-                (1, [1, 0], Some((1, SECOND + THIRD))),
-                (1, [2, 0], Some((2, PROCESS + SITE + SECOND))),
-                (2, [1, 0], Some((2, PROCESS + 2 * SITE + SECOND))),
-                (2, [0, 0], Some((3, THIRD))),
-                (3, [1, 0], Some((3, SECOND + THIRD))),
-            ],
-            stop: Stop::Steps,
-        },
-        // A dimer walks round a triangle.
-        Run {
-            deck: of_dimers(TRIANGLE, &[ADSORB, WALK], 4),
-            reports: &[
-                (0, [0, 0], Some((1, 0))),
-                (1, [1, 0], Some((2, PROCESS + THIRD))),
-                (2, [1, 0], Some((3, PROCESS + SITE + SECOND))),
-                (3, [1, 0], Some((4, PROCESS + 2 * SITE))),
-                (4, [1, 0], Some((5, PROCESS + THIRD))),
-            ],
-            stop: Stop::Steps,
-        },
-    ];
-    follow_all(&rt, rt.alloc(), &runs)
+    follow_all(&rt, rt.alloc(), DIMER_RUNS)
 }

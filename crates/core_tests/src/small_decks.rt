@@ -2,7 +2,7 @@ ghost use Rattle.std.specs.Prelude.{◌≡◌, ◌^◌, ◌<◌, ◌≤◌, ℕ,
 ghost use Rattle.std.specs.List.{All, AllByRecursion};
 ghost use Rattle.kmc_core.specs.Deck.{IsSound, IsSoundProcess, IsSoundSide, IsWholeWant};
 ghost use Rattle.lattice_core.specs.Lattice.{IsLattice};
-ghost use Rattle.pattern_types.specs.Edges.{edge_set, joined};
+ghost use Rattle.pattern_types.specs.Edges.{edge_set, are_adjacent};
 ghost use Rattle.sim_deck.specs.Soundness.{IsPeriod, IsSoundPlan};
 
 use kmc_base::{END_OF_TIME, MAX_DENTATES, MAX_ENERGY, MAX_EVENTS, Sequence, SiteId, SpeciesId};
@@ -154,7 +154,7 @@ fn side(
     wanted: &[Wanted],
     dentates: &[u8],
 ) -> Result<Pattern, Fail>
-    ensures edges { IfOk result (λ side. side.edges ≡ edge_set (joined edges.now)) }
+    ensures edges { IfOk result (λ side. side.edges ≡ edge_set (are_adjacent edges.now)) }
     ensures types { IfOk result (λ side. side.types ≡ types.now) }
     ensures sound { IfOk result (λ side. IsSoundSide (λ s. slice_index dentates.now s) side) }
 {
