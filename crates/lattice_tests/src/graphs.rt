@@ -6,7 +6,7 @@ use std::alloc::Global;
 use std::process::Abort;
 use std::test::Fail;
 
-/// The lists of a text: those of the sites stand between bars, from site 0 on.
+/// The lists of a text: those of the sites are between bars, from site 0 on.
 fn lists(alloc: Global, text: &str) -> Result<Vec<Vec<SiteId>>, Fail> {
     let mut lists = Vec::new(alloc);
     for row in text.split('|') {

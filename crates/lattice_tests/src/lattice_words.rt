@@ -65,7 +65,7 @@ const CELL: &str =
 const EXPLICIT: &str =
     "lattice explicit\nn_sites 2\nn_site_types 1\nsite_type_names t\nlattice_structure\n1 0.0 0.0 t 1 2\n2 1.0 0.0 t 1 1\nend_lattice_structure\nend_lattice";
 
-/// A line of a file and what stands in its place, and the line and the kind of the fault that the file then has.
+/// The number of a line, what replaces it, and the line and the kind of the fault that the file then has.
 type Change = (usize, &'static str, Option<(u32, u8)>);
 
 const OF_DEFAULT: [Change; 14] = [
