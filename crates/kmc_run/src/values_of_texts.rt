@@ -33,10 +33,10 @@ fn read_shapes(
 }
 
 /// Goes on where each type word of a lattice file is a type.
-fn check_types(text: &[u8], part: &LatticePart) -> Result<(), DeckFault>
+fn check_types(alloc: Global, text: &[u8], part: &LatticePart) -> Result<(), DeckFault>
     ensures { Reads (λ _. tt) result (types_in (lattice_values_at text.now part.now)) }
 {
-    match unknown_type(text, part) {
+    match unknown_type(alloc, text, part)? {
         Some((line, kind)) => Err(DeckFault::Fault(Fault {
             file: FileId::Lattice,
             line,
@@ -63,7 +63,7 @@ fn read_parts(
 {
     let simulation_part = sim_deck::read(alloc, simulation, simulation_shape)?;
     let lattice_part = lattice_deck::read(alloc, lattice, lattice_shape)?;
-    check_types(lattice, &lattice_part)?;
+    check_types(alloc, lattice, &lattice_part)?;
     Ok((simulation_part, lattice_part))
 }
 

@@ -1,6 +1,6 @@
 //! Type words that are no type.
 
-ghost use Rattle.std.specs.Prelude.{◌≡◌, ◌==◌, map};
+ghost use Rattle.std.specs.Prelude.{◌≡◌, ◌==◌, IfOk};
 ghost use Rattle.std.specs.List.{find};
 ghost use Rattle.std.specs.Option.{option_copied};
 ghost use Rattle.dec_text.specs.Spans.{bytes_at};
@@ -11,27 +11,33 @@ ghost use Rattle.site_rows.specs.TypeWords.{type_of};
 use crate::part::LatticePart;
 use deck_shape::Name;
 use deck_shape::kind::UNKNOWN_TYPE;
-use site_rows::type_of;
+use kmc_base::OutOfMemory;
+use site_rows::TypeIndex;
+use std::alloc::Global;
 
 /// The first type word that is no number of a type and no name of one.
-fn first_unknown<'a>(bytes: &[u8], names: &[Vec<u8>], words: &'a [Name]) -> Option<&'a Name>
-    ensures { option_copied result ≡ find (λ word. type_of (map (λ name. name.items) names.now) (bytes_at bytes.now word.span) == 0) words.now }
+fn first_unknown<'a>(bytes: &[u8], index: &TypeIndex, words: &'a [Name]) -> Option<&'a Name>
+    ensures { option_copied result ≡ find (λ word. type_of index.now (bytes_at bytes.now word.span) == 0) words.now }
 {
     words
         .iter()
-        .find(|word| type_of(names, word.span.bytes(bytes)) == 0)
+        .find(|word| index.type_of(word.span.bytes(bytes)) == 0)
 }
 
 /// The first type word of a lattice file that is neither the number of a type, from 1, nor the name of one: its line, and
 /// the kind `UNKNOWN_TYPE`. The type words are those of `site_types` in a periodic cell, and the fourth word of each row
 /// of an explicit lattice; a default lattice has none.
-pub fn unknown_type(bytes: &[u8], part: &LatticePart) -> Option<(u32, u8)>
-    ensures { result ≡ unknown_type (values_at bytes.now part.now).type_names (values_at bytes.now part.now).type_words }
+pub fn unknown_type(
+    alloc: Global,
+    bytes: &[u8],
+    part: &LatticePart,
+) -> Result<Option<(u32, u8)>, OutOfMemory>
+    ensures { IfOk result (λ fault. fault ≡ unknown_type (values_at bytes.now part.now).type_names (values_at bytes.now part.now).type_words) }
 {
-    let names = part.type_names.as_slice();
+    let index = TypeIndex::new(alloc, part.type_names.as_slice())?;
     let words = part.type_words.as_slice();
-    match first_unknown(bytes, names, words) {
-        Some(word) => Some((word.line, UNKNOWN_TYPE)),
-        None => None,
+    match first_unknown(bytes, &index, words) {
+        Some(word) => Ok(Some((word.line, UNKNOWN_TYPE))),
+        None => Ok(None),
     }
 }

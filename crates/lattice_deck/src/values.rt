@@ -139,11 +139,12 @@ fn indexed_types(
     index: &TypeIndex,
     words: &[Span],
 ) -> Result<Vec<u16>, OutOfMemory>
+    requires { length index.now ≤ MAX_SITE_TYPES }
     ensures { IfOk result (λ types. types.items ≡ map (type_of index.now) (map (bytes_at bytes.now) words.now)) }
 {
     let mut types = Vec::new(alloc);
     for word in words {
-        types.push(index.type_of(word.bytes(bytes)))?;
+        types.push(index.type_of(word.bytes(bytes)) as u16)?;
     }
     Ok(types)
 }

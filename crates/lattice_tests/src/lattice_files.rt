@@ -133,7 +133,7 @@ fn reads_lattices(rt: HostRuntime) -> Result<(), Fail> {
         (named, 9, 1, 0, None, [1, 1], [1, 2, 3, 4, 6, 8].as_slice()),
     ] {
         let part = read_text(alloc, text)?;
-        assert_eq!(rt; unknown_type(text, &part), unknown);
+        assert_eq!(rt; unknown_type(alloc, text, &part)?, unknown);
         assert_eq!(rt; part.graph.len(), sites);
         assert_eq!(rt; part.type_names.len(), types);
         assert_eq!(rt; part.type_words.len(), words);

@@ -1,5 +1,5 @@
 -- the numbers of the first types of names, and one name more
-use Rattle.std.proofs.Common.{◌≡◌, ◌∙◌, sym, ap, ℕ, ◌+◌, ◌++◌, Bool, Bor, true, false, cond, inl, inr, List, [], ◌∷◌, Option, None, Some, is_some}
+use Rattle.std.proofs.Common.{◌≡◌, ◌∙◌, sym, ap, ℕ, ◌+◌, ◌≤◌, ◌++◌, Bool, Bor, true, false, cond, inl, inr, List, [], ◌∷◌, Option, None, Some, is_some}
 use Rattle.std.proofs.Common.{length, nat_cmp, nat_eq, refl, arith}
 use Rattle.std.specs.BTreeMap.{BTreeMap, is_at}
 use Rattle.std.specs.BTreeMap as tree
@@ -35,6 +35,15 @@ last_passed : {X : Type 0} (p : X → Bool) (i : ℕ) (xs : List X) (x : X) → 
     → position_from p i (xs ++ x ∷ []) ≡ position_from p i xs
 last_passed p i [] x is = rw is refl
 last_passed p i (y ∷ xs) x is = ap (cond (p y) (Some i)) (last_passed p (i + 1) xs x is)
+
+-- the number of a type is at most how many there are
+pub found_within : {X : Type 0} (p : X → Bool) (i : ℕ) (xs : List X) (n : ℕ) → position_from p i xs ≡ Some n → n + 1 ≤ i + length xs
+found_within p i [] n found = absurd (cc)
+found_within p i (y ∷ xs) n found =
+    elim (p y) as (λ b. cond b (Some i) (position_from p (i + 1) xs) ≡ Some n → n + 1 ≤ i + length (y ∷ xs)) [
+      | true ↦ λ e. let same : i ≡ n = cc in omega arith
+      | false ↦ λ e. let later : n + 1 ≤ i + 1 + length xs = found_within p (i + 1) xs n e in omega arith
+    ] found
 
 some_found : (r : Option ℕ) → is_some r ≡ true → (n : ℕ) × (r ≡ Some n)
 some_found None is = absurd (cc)

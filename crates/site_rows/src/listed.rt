@@ -49,6 +49,7 @@ fn place_row(
     lists: &mut [Vec<SiteId>],
     row: &ReadRow,
 ) -> Result<(), OutOfMemory>
+    requires few_types { length index.now ≤ MAX_SITE_TYPES }
     requires same_length { length lists.old ≡ length types.old }
     requires within_limit { length types.old ≤ MAX_SITES }
     requires sites { NamesSites (length types.old) (row_at bytes.now row.now) }
@@ -56,7 +57,7 @@ fn place_row(
     ensures lists { OnOk result (number_lists lists.new ≡ slice_set (number_lists lists.old) (row.now.site - 1) (map (λ n. n - 1) row.now.neighbours.items)) }
 {
     let place = (row.site - 1) as usize;
-    types[place] = index.type_of(row.type_word.bytes(bytes));
+    types[place] = index.type_of(row.type_word.bytes(bytes)) as u16;
     lists[place] = site_ids(alloc, row.neighbours.as_slice())?;
     Ok(())
 }
@@ -70,6 +71,7 @@ fn place_line(
     lists: &mut [Vec<SiteId>],
     line: &Line,
 ) -> Result<(), OutOfMemory>
+    requires few_types { length index.now ≤ MAX_SITE_TYPES }
     requires same_length { length lists.old ≡ length types.old }
     requires within_limit { length types.old ≤ MAX_SITES }
     requires sites { LineNamesSites (length types.old) (line_at bytes.now line.now) }
@@ -95,6 +97,7 @@ fn place_rows(
     lists: &mut [Vec<SiteId>],
     rows: &[Line],
 ) -> Result<(), OutOfMemory>
+    requires few_types { length index.now ≤ MAX_SITE_TYPES }
     requires same_length { length lists.old ≡ length types.old }
     requires within_limit { length types.old ≤ MAX_SITES }
     requires faultless { IsFaultless (length types.old) (map (line_at bytes.now) rows.now) }

@@ -1,9 +1,8 @@
 ghost use Rattle.std.specs.Prelude.{◌≡◌, ◌+◌, ◌++◌, ◌≤◌, ◌∷◌, [], ℕ, List, IfOk, OnOk, length, map};
 ghost use Rattle.site_rows.specs.TypeIndexes.{AreNumbers};
 ghost use Rattle.site_rows.specs.TypeWords.{type_named, type_of};
-ghost use Rattle.site_rows.specs.declared.type_word.TheConstants.{MAX_SITE_TYPES};
 
-use crate::type_word::{MAX_SITE_TYPES, type_numbered};
+use crate::type_word::type_numbered;
 use kmc_base::OutOfMemory;
 use std::alloc::Global;
 use std::collections::BTreeMap;
@@ -14,27 +13,25 @@ use std::marker::Model;
 pub struct TypeIndex<'a> {
     names: &'a [Vec<u8>],
     /// The number of the first type with each name, from 1.
-    numbers: BTreeMap<&'a [u8], u16>,
+    numbers: BTreeMap<&'a [u8], usize>,
 }
 
 impl<'a> Model for TypeIndex<'a> {
-    ghost use Rattle.std.specs.Prelude.{ℕ, ◌≤◌, List, length, map};
+    ghost use Rattle.std.specs.Prelude.{ℕ, List, map};
     ghost use Rattle.site_rows.specs.TypeIndexes.{AreNumbers};
-    ghost use Rattle.site_rows.specs.declared.type_word.TheConstants.{MAX_SITE_TYPES};
 
     ghost Value = { List (List ℕ) };
 
     ghost view = { λ index. map (λ name. name.items) index.names.now };
 
-    ghost invariant = { λ index. (length index.names.now ≤ MAX_SITE_TYPES)
-        × AreNumbers (map (λ name. name.items) index.names.now) index.numbers };
+    ghost invariant = { λ index. AreNumbers (map (λ name. name.items) index.names.now) index.numbers };
 }
 
 /// Keeps the name of the type with this number, unless a type above has the same name.
 fn keep_first<'a>(
-    numbers: &mut BTreeMap<&'a [u8], u16>,
+    numbers: &mut BTreeMap<&'a [u8], usize>,
     name: &'a [u8],
-    number: u16,
+    number: usize,
 ) -> Result<(), OutOfMemory>
     ensures { OnOk result ((above : List (List ℕ)) → number ≡ length above + 1 → AreNumbers above numbers.old
         → AreNumbers (above ++ name.now ∷ []) numbers.new) }
@@ -49,21 +46,19 @@ fn keep_first<'a>(
 fn numbers_of<'a>(
     alloc: Global,
     names: &'a [Vec<u8>],
-) -> Result<BTreeMap<&'a [u8], u16>, OutOfMemory>
-    requires { length names.now ≤ MAX_SITE_TYPES }
+) -> Result<BTreeMap<&'a [u8], usize>, OutOfMemory>
     ensures { IfOk result (AreNumbers (map (λ name. name.items) names.now)) }
 {
     let mut numbers = BTreeMap::new(alloc);
     for place in 0..names.len() {
-        keep_first(&mut numbers, names[place].as_slice(), place as u16 + 1)?;
+        keep_first(&mut numbers, names[place].as_slice(), place + 1)?;
     }
     Ok(numbers)
 }
 
 impl<'a> TypeIndex<'a> {
-    /// The index of the names of site types, at most 1,000, in order.
+    /// The index of the names of site types in order.
     pub fn new(alloc: Global, names: &'a [Vec<u8>]) -> Result<TypeIndex<'a>, OutOfMemory>
-        requires { length names.now ≤ MAX_SITE_TYPES }
         ensures { IfOk result (λ index. index ≡ map (λ name. name.items) names.now) }
     {
         let numbers = numbers_of(alloc, names)?;
@@ -71,8 +66,9 @@ impl<'a> TypeIndex<'a> {
     }
 
     /// The number of the type with a name, from 1; 0 where no type has it.
-    fn type_named(&self, word: &[u8]) -> u16
-        ensures { result ≡ type_named self.now word.now }
+    fn type_named(&self, word: &[u8]) -> usize
+        ensures value { result ≡ type_named self.now word.now }
+        ensures within { result ≤ length self.now }
     {
         match self.numbers.get(word) {
             Some(number) => *number,
@@ -82,11 +78,12 @@ impl<'a> TypeIndex<'a> {
 
     /// The type of a type word: that of its number, or else that of its name, or 0 where it is no type. Types are
     /// numbered from 1.
-    pub fn type_of(&self, word: &[u8]) -> u16
-        ensures { result ≡ type_of self.now word.now }
+    pub fn type_of(&self, word: &[u8]) -> usize
+        ensures value { result ≡ type_of self.now word.now }
+        ensures within { result ≤ length self.now }
     {
         match type_numbered(self.names.len(), word) {
-            Some(number) => number as u16,
+            Some(number) => number,
             None => self.type_named(word),
         }
     }
