@@ -1,4 +1,4 @@
-use Rattle.std.proofs.Common.{◌≡◌, ◌∙◌, Some, ap, arith, nat_eq, sym, unwrap_or}
+use Rattle.std.proofs.Common.{◌∙◌, ap, arith, nat_eq, sym, unwrap_or}
 use Rattle.std.specs.Cmp.Lexicographic.{pointwise}
 use Rattle.std.specs.List.{position_from}
 use Rattle.site_rows.proofs.TypeIndexes.{found_within}
