@@ -1,5 +1,6 @@
 -- the numbers of the first types of names, and one name more
-use Rattle.std.proofs.Common.{◌≡◌, ◌∙◌, sym, ap, ℕ, ◌+◌, ◌≤◌, ◌++◌, Bool, Bor, true, false, cond, inl, inr, List, [], ◌∷◌, Option, None, Some, is_some}
+use Rattle.std.proofs.Common.{◌≡◌, ◌∙◌, sym, ap, ℕ, ◌+◌, ◌≤◌, ◌++◌, Bool, Bor, true, false, cond, inl, inr, List, [], ◌∷◌, Option, None}
+use Rattle.std.proofs.Common.{Some, is_some}
 use Rattle.std.proofs.Common.{length, nat_cmp, nat_eq, refl, arith}
 use Rattle.std.specs.BTreeMap.{BTreeMap, is_at}
 use Rattle.std.specs.BTreeMap as tree

@@ -29,7 +29,9 @@ loop-at-preserved c =
     }
 
 pub returns-clause-line : goal.returns-clause-line
-returns-clause-line c =
-    (ap (lines_below c.args.bytes.now) (sym c.loop-at.invariant.place)
-    ∙ c.loop-at.invariant.left
-    ∙ none_below c.args.bytes.now c.loop-at.at.start c.loop-at.at.number c.loop-at-test.false, c.loop-at.invariant.place)
+returns-clause-line c = (
+  ap (lines_below c.args.bytes.now) (sym c.loop-at.invariant.place)
+      ∙ c.loop-at.invariant.left
+      ∙ none_below c.args.bytes.now c.loop-at.at.start c.loop-at.at.number c.loop-at-test.false,
+  c.loop-at.invariant.place,
+)

@@ -1,5 +1,5 @@
-use Rattle.std.proofs.Common.{ap, subst, sym, ◌∙◌}
-use Rattle.std.proofs.lemmas.Result.{err_from_is_err_and}
+use Rattle.std.proofs.Common.{◌≡◌, subst, sym, ◌∙◌}
+use Rattle.std.proofs.lemmas.Result.{IfOk-weaker, err_from_is_err_and}
 use Rattle.sim_deck.specs.Values.{values_at}
 use Rattle.sim_deck.specs.declared.part.Plan.{Plan}
 use Rattle.kmc_run.specs.PlainDecks.{deck_with}
@@ -32,3 +32,10 @@ returns-clause-value c =
       c.in_ok-go_on_if-2.ensures.value,
     )
     c.deck_with_mechanism.ensures.value
+
+pub returns-clause-written : goal.returns-clause-written
+returns-clause-written c =
+    let all = written (values_at c.args.text.now c.args.part.now)
+    (sym (c.is_built.ensures c.args.text.now) ∙ c.in_ok-go_on_if.ensures.built) in
+    IfOk-weaker c.deck_with_mechanism.result (λ deck. deck.plan ≡ c.args.part.now.plan) (λ deck. IsWritten deck.plan)
+    (λ deck plan. subst (λ (p : Plan). IsWritten p) (sym plan) all) c.deck_with_mechanism.ensures.plan
