@@ -1,9 +1,9 @@
 -- the first line below a place
-use Rattle.std.proofs.Common.{◌≡◌, ℕ, ◌+◌, ◌-◌, ◌<◌, ◌≤◌, true, false, List, [], ◌∷◌, length, map, refl, ap, sym, ◌∙◌, arith, cond}
+use Rattle.std.proofs.Common.{◌≡◌, ℕ, ◌+◌, ◌-◌, ◌<◌, ◌≤◌, List, [], ◌∷◌, length, map, refl, ap, sym, ◌∙◌, arith, cond}
 use Rattle.std.specs.List.{position_or_len, slice_range}
 use Rattle.dec_text.proofs.Runs.{next_run}
 use Rattle.dec_text.specs.Bytes.{is_line_feed}
-use Rattle.dec_text.specs.Lines.{Run, WordLine, is_filled, lines_from, run, runs, words_of}
+use Rattle.dec_text.specs.Lines.{Run, WordLine, is_filled, lines_from, run, words_of}
 use Rattle.dec_text.specs.Places.{lines_below}
 use Rattle.dec_text.specs.Spans.{line_at, run_at}
 use Rattle.dec_text.specs.declared.lines.LinePlace.{LinePlace}

@@ -1,12 +1,10 @@
 -- words and lines by their places in a text
-use Rattle.std.proofs.Common.{◌≡◌, ℕ, ◌+◌, true, false, List, [], ◌∷◌, ◌++◌, map, refl, ap, sym, ◌∙◌, ⊎_elim, append_assoc, if◌then◌else◌, cond, All}
+use Rattle.std.proofs.Common.{◌≡◌, ℕ, List, [], ◌∷◌, ◌++◌, map, refl, sym, append_assoc}
 use Rattle.std.specs.List.{slice_range}
-use Rattle.std.proofs.lemmas.Bool.{cases_Bool}
-use Rattle.std.proofs.lemmas.List.{append-nil, map_push}
+use Rattle.std.proofs.lemmas.List.{map_push}
 use Rattle.std.proofs.lemmas.Simd.{map-map}
-use Rattle.std.proofs.lemmas.List.Elements.{All-push}
-use Rattle.dec_text.specs.Lines.{Run, WordLine, is_filled, lines_from, plain_line, run, words_of}
-use Rattle.dec_text.specs.Spans.{AreWithin, IsWithin, bytes_at, line_at, plain_line_at, run_at}
+use Rattle.dec_text.specs.Lines.{Run, plain_line, run}
+use Rattle.dec_text.specs.Spans.{bytes_at, line_at, plain_line_at, run_at}
 use Rattle.dec_text.specs.declared.lines.Line.{Line}
 use Rattle.dec_text.specs.declared.lines.Span.{Span}
 

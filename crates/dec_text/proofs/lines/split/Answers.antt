@@ -1,4 +1,4 @@
-use Rattle.std.proofs.Common.{◌≡◌, ◌∙◌, ap, [], map, ◌++◌}
+use Rattle.std.proofs.Common.{◌≡◌, ◌∙◌, ap, [], map}
 use Rattle.std.proofs.lemmas.List.{append-nil}
 use Rattle.dec_text.proofs.Spans.{map-plain_line}
 use Rattle.dec_text.specs.Lines.{plain_line}
