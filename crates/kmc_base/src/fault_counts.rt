@@ -14,7 +14,7 @@ pub struct FaultCounts {
 
 impl FaultCounts {
     ghost use Rattle.kmc_base.specs.FaultCounts.{read_failed, write_failed, reads_of, writes_of};
-    ghost use Rattle.kmc_base.specs.Faults.{Rose, SameCounts, SameCountsBut};
+    ghost use Rattle.kmc_base.specs.Faults.{IsCount, Rose, SameCounts, SameCountsBut};
 
     /// No fault yet.
     pub fn none() -> Self
@@ -31,6 +31,7 @@ impl FaultCounts {
     pub fn read_failed(&mut self, file: FileId)
         ensures left { self.new ≡ read_failed self.old file }
         ensures rose { Rose (reads_of self.old file) (reads_of self.new file) }
+        ensures few { IsCount (reads_of self.new file) }
         ensures other_reads { SameCountsBut file (reads_of self.old) (reads_of self.new) }
         ensures writes { SameCounts (writes_of self.old) (writes_of self.new) }
     {
@@ -42,6 +43,7 @@ impl FaultCounts {
     pub fn write_failed(&mut self, out: OutId)
         ensures left { self.new ≡ write_failed self.old out }
         ensures rose { Rose (writes_of self.old out) (writes_of self.new out) }
+        ensures few { IsCount (writes_of self.new out) }
         ensures other_writes { SameCountsBut out (writes_of self.old) (writes_of self.new) }
         ensures reads { SameCounts (reads_of self.old) (reads_of self.new) }
     {

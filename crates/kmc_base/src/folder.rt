@@ -57,7 +57,7 @@ pub trait Folder {
     fn load(&mut self, alloc: Global, file: FileId, max: usize) -> Result<Vec<u8>, LoadFault>
         ensures answer { IfSome (files self.old) (λ told. Loads (file_of told file) max result) }
         ensures cause { IsErrOf result LoadFault.Failed → Rose (read_faults self.old file) (read_faults self.new file) }
-        ensures few { IsCount (read_faults self.new file) }
+        ensures few { IsErrOf result LoadFault.Failed → IsCount (read_faults self.new file) }
         ensures no_fault { UnlessFailed result (SameCounts (read_faults self.old) (read_faults self.new)) }
         ensures other_reads { SameCountsBut file (read_faults self.old) (read_faults self.new) }
         ensures writes { SameCounts (write_faults self.old) (write_faults self.new) }
@@ -75,7 +75,7 @@ pub trait Folder {
         ensures ok { OnOk result (Tells (outs self.old) (outs self.new) (λ then now. now ≡ begun out then)) }
         ensures err { OnErr result (Tells (outs self.old) (outs self.new) (MayBegin out)) }
         ensures cause { OnErr result (Rose (write_faults self.old out) (write_faults self.new out)) }
-        ensures few { IsCount (write_faults self.new out) }
+        ensures few { OnErr result (IsCount (write_faults self.new out)) }
         ensures no_fault { OnOk result (SameCounts (write_faults self.old) (write_faults self.new)) }
         ensures other_writes { SameCountsBut out (write_faults self.old) (write_faults self.new) }
         ensures reads { SameCounts (read_faults self.old) (read_faults self.new) }
@@ -91,7 +91,7 @@ pub trait Folder {
         ensures ok { OnOk result (Tells (outs self.old) (outs self.new) (λ then now. now ≡ appended out piece.now then)) }
         ensures err { OnErr result (Tells (outs self.old) (outs self.new) (MayAppend out piece.now)) }
         ensures cause { OnErr result (Rose (write_faults self.old out) (write_faults self.new out)) }
-        ensures few { IsCount (write_faults self.new out) }
+        ensures few { OnErr result (IsCount (write_faults self.new out)) }
         ensures no_fault { OnOk result (SameCounts (write_faults self.old) (write_faults self.new)) }
         ensures other_writes { SameCountsBut out (write_faults self.old) (write_faults self.new) }
         ensures reads { SameCounts (read_faults self.old) (read_faults self.new) }

@@ -146,7 +146,7 @@ impl Folder for MemoryFolder {
         ensures fails { IsErrOf result LoadFault.Failed ↔ IsTrue (next_fails self.old.loads) }
         ensures answer { Loads (file_of self.old.files file) max result }
         ensures cause { IsErrOf result LoadFault.Failed → Rose (reads_of self.old.faults file) (reads_of self.new.faults file) }
-        ensures few { IsCount (reads_of self.new.faults file) }
+        ensures few { IsErrOf result LoadFault.Failed → IsCount (reads_of self.new.faults file) }
         ensures no_fault { UnlessFailed result (SameCounts (reads_of self.old.faults) (reads_of self.new.faults)) }
         ensures other_reads { SameCountsBut file (reads_of self.old.faults) (reads_of self.new.faults) }
     {
@@ -168,7 +168,7 @@ impl Folder for MemoryFolder {
         ensures left { self.new ≡ after_begin out self.old }
         ensures fails { IsErr result ↔ IsTrue (next_fails self.old.begins) }
         ensures cause { OnErr result (Rose (writes_of self.old.faults out) (writes_of self.new.faults out)) }
-        ensures few { IsCount (writes_of self.new.faults out) }
+        ensures few { OnErr result (IsCount (writes_of self.new.faults out)) }
         ensures no_fault { OnOk result (SameCounts (writes_of self.old.faults) (writes_of self.new.faults)) }
         ensures other_writes { SameCountsBut out (writes_of self.old.faults) (writes_of self.new.faults) }
     {
@@ -188,7 +188,7 @@ impl Folder for MemoryFolder {
         ensures left { self.new ≡ after_append out piece.now self.old }
         ensures fails { IsErr result ↔ IsTrue (next_fails self.old.appends) }
         ensures cause { OnErr result (Rose (writes_of self.old.faults out) (writes_of self.new.faults out)) }
-        ensures few { IsCount (writes_of self.new.faults out) }
+        ensures few { OnErr result (IsCount (writes_of self.new.faults out)) }
         ensures no_fault { OnOk result (SameCounts (writes_of self.old.faults) (writes_of self.new.faults)) }
         ensures other_writes { SameCountsBut out (writes_of self.old.faults) (writes_of self.new.faults) }
     {

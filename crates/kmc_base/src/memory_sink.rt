@@ -84,7 +84,7 @@ impl Sink for MemorySink {
         ensures left { self.new ≡ after_put piece.now self.old }
         ensures fails { IsErr result ↔ IsTrue (next_fails self.old.puts) }
         ensures cause { OnErr result (Rose self.old.faults self.new.faults) }
-        ensures few { IsCount self.new.faults }
+        ensures few { OnErr result (IsCount self.new.faults) }
         ensures no_fault { OnOk result (self.new.faults ≡ self.old.faults) }
     {
         if self.puts.next() {

@@ -25,6 +25,6 @@ pub trait Sink {
         // The first of the bytes were taken, or none.
         ensures err { OnErr result (Tells (taken self.old) (taken self.new) (λ then now. ((n : ℕ) × (now ≡ then ++ take n piece.now)))) }
         ensures cause { OnErr result (Rose (faults self.old) (faults self.new)) }
-        ensures few { IsCount (faults self.new) }
+        ensures few { OnErr result (IsCount (faults self.new)) }
         ensures no_fault { OnOk result (faults self.new ≡ faults self.old) };
 }
