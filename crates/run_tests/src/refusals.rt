@@ -211,5 +211,6 @@ fn refuses_a_file_that_is_too_long(rt: HostRuntime) -> Result<(), Fail> {
         status_of(&rt, alloc, &["run"], &mut folder)?,
         Status::Refused(fault)
     );
+    assert!(rt; folder.output(OutId::Specnum).is_none());
     Ok(())
 }

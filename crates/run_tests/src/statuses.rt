@@ -52,6 +52,7 @@ fn reading_fails_before_a_deck_is_refused(rt: HostRuntime) -> Result<(), Fail> {
     let mut folder = folder_of(rt.alloc(), deck, [4, 0], 0)?;
     let status = status_of(&rt, rt.alloc(), &["run"], &mut folder)?;
     assert_eq!(rt; status, Status::ReadFault(FileId::Mechanism));
+    assert!(rt; folder.output(OutId::Specnum).is_none());
     Ok(())
 }
 

@@ -81,6 +81,33 @@ fn samples_of_whole_runs(rt: HostRuntime) -> Result<(), Fail> {
     Ok(())
 }
 
+/// The first lines of a simulation file of a gas species and two surface species, and a step that fills a site with the
+/// second of these.
+const TWO_SPECIES: &str =
+    "random_seed 1\ntemperature 500.0\npressure 1.0\nn_gas_species 1\ngas_specs_names G\ngas_energies 0.0\ngas_molar_fracs 1.0\nn_surf_species 2\nsurf_specs_names A** B*\nsurf_specs_dent 2 1\n";
+
+const FILLS_SECOND: &str =
+    "mechanism\nstep one\nsites 1\ninitial\n1 * 1\nfinal\n1 B* 1\npre_expon 1e300\nactiv_eng 0\nend_step\nend_mechanism\n";
+
+#[test]
+fn samples_at_every_second_event(rt: HostRuntime) -> Result<(), Fail> {
+    let deck = DeckTexts {
+        simulation: [
+            TWO_SPECIES,
+            "species_numbers on event 2\nmax_steps 10\nfinish\n",
+        ],
+        mechanism: FILLS_SECOND,
+        ..FILLED
+    };
+    writes(
+        &rt,
+        rt.alloc(),
+        deck,
+        "specnum 1\ncolumns sample event time temperature energy A** B* G\n",
+        "0 0 0.000000000000000000 500.000 0.000000000 0 0 0\n1 2 0.000000000000000001 500.000 0.000000000 0 2 0\n2 4 0.000000000000000001 500.000 0.000000000 0 4 0\n",
+    )
+}
+
 #[test]
 fn runs_on_each_kind_of_lattice(rt: HostRuntime) -> Result<(), Fail> {
     const CASES: [(&str, &str); 4] = [
