@@ -67,6 +67,15 @@ fn append_in_turn<R: Files>(folder: &mut DiskFolder<R>) -> Result<(), Failed> {
     Ok(())
 }
 
+/// Begins each output, which may be open, and adds no bytes to it.
+fn begin_in_turn<R: Files>(folder: &mut DiskFolder<R>) -> Result<(), Failed> {
+    for (out, _) in OUTPUTS {
+        folder.begin(out)?;
+        folder.append(out, b"")?;
+    }
+    Ok(())
+}
+
 /// Looks at what each output holds: its name, the point and what follows.
 fn holds<R: Files + AllocGlobal + Abort>(rt: &R, rest: &str) -> Result<(), Fail> {
     for (_, name) in OUTPUTS {
@@ -82,11 +91,11 @@ fn outputs_are_written_to_the_working_directory(rt: HostRuntime) -> Result<(), F
     append_in_turn(&mut DiskFolder::new(&rt))?;
     holds(&rt, "")?;
     let mut folder = DiskFolder::new(&rt);
-    for (out, _) in OUTPUTS {
-        folder.begin(out)?;
+    for _ in 0..2 {
+        begin_in_turn(&mut folder)?;
+        append_in_turn(&mut folder)?;
+        holds(&rt, "")?;
     }
-    append_in_turn(&mut folder)?;
-    holds(&rt, "")?;
     for (out, _) in OUTPUTS {
         DiskFolder::new(&rt).append(out, b" more")?;
     }
@@ -111,6 +120,16 @@ struct Slow {
 }
 
 impl Slow {
+    /// Bytes of which the call of this number fails.
+    fn new(bytes: Vec<u8>, failing: u64) -> Slow {
+        Slow {
+            bytes,
+            done: 0,
+            calls: 0,
+            failing,
+        }
+    }
+
     /// Counts a call, and says whether it goes on.
     fn call(&mut self) -> io::Result<()> {
         self.calls = self.calls.saturating_add(1);
@@ -155,25 +174,15 @@ impl Write for Slow {
     }
 }
 
-/// Bytes of which the call of this number fails.
-fn slow(bytes: Vec<u8>, failing: u64) -> Slow {
-    Slow {
-        bytes,
-        done: 0,
-        calls: 0,
-        failing,
-    }
-}
-
 #[test]
 fn goes_on_after_an_interruption(rt: HostRuntime) -> Result<(), Fail> {
     for (failing, is_read, written) in [(0, true, "abc"), (4, false, "a")] {
-        let mut from = slow(b"abc".to_vec(rt.alloc())?, failing);
+        let mut from = Slow::new(b"abc".to_vec(rt.alloc())?, failing);
         match read_whole(rt.alloc(), &mut from, 3) {
             Ok(bytes) => assert_eq!(rt; (bytes.as_slice(), is_read), (b"abc".as_slice(), true)),
             Err(fault) => assert_eq!(rt; (fault, is_read), (LoadFault::Failed, false)),
         }
-        let mut to = slow(Vec::new(rt.alloc()), failing);
+        let mut to = Slow::new(Vec::new(rt.alloc()), failing);
         assert_eq!(rt; write_whole(&mut to, b"abc").is_ok(), is_read);
         assert_eq!(rt; to.bytes.as_slice(), written.as_bytes());
     }
