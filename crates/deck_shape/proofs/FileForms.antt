@@ -8,13 +8,13 @@ use Rattle.deck_shape.specs.Blocks.{BlockLines}
 use Rattle.deck_shape.specs.LineFaults.{block_of_text, closes, is_outermost, line_count}
 use Rattle.deck_shape.specs.LineWords.{head_of}
 use Rattle.deck_shape.specs.Reading.{SoFar, after_word, argument_of, block_of, first_block, lattice_block, nothing_read, rule_at}
-use Rattle.deck_shape.specs.Tables.{rule_for, rules_of, same_word}
-use Rattle.deck_shape.specs.declared.table.BlockForm.{BlockForm}
-use Rattle.deck_shape.specs.declared.table.BlockForm.TheVariants.{Simulation, LatticeFile, DefaultChoice, PeriodicCell, Explicit}
-use Rattle.deck_shape.specs.declared.table.BlockForm.TheVariants.{NeighboringStructure, LatticeStructure}
-use Rattle.deck_shape.specs.declared.table.Role.{Role}
-use Rattle.deck_shape.specs.declared.table.Role.TheVariants.{Value, Rows, Encloses, BeginsLattice, Closes, Unsupported}
-use Rattle.deck_shape.specs.declared.table.Rule.{Rule}
+use Rattle.deck_words.specs.Tables.{rule_for, rules_of, same_word}
+use Rattle.deck_words.specs.declared.table.BlockForm.{BlockForm}
+use Rattle.deck_words.specs.declared.table.BlockForm.TheVariants.{Simulation, LatticeFile, DefaultChoice, PeriodicCell, Explicit}
+use Rattle.deck_words.specs.declared.table.BlockForm.TheVariants.{NeighboringStructure, LatticeStructure}
+use Rattle.deck_words.specs.declared.table.Role.{Role}
+use Rattle.deck_words.specs.declared.table.Role.TheVariants.{Value, Rows, Encloses, BeginsLattice, Closes, Unsupported}
+use Rattle.deck_words.specs.declared.table.Rule.{Rule}
 use Rattle.deck_shape.specs.WholeBlocks.{IsLatticeForm}
 use Rattle.deck_shape.proofs.ReadBlocks.{outermost, read_has, role_of, rule_in}
 

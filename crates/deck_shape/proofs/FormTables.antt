@@ -3,7 +3,7 @@ use Rattle.std.proofs.Common.{ℕ, List, [], ◌∷◌, Some, IfSome, true, fals
 use Rattle.std.specs.List.{AllByRecursion}
 use Rattle.std.specs.Option.{option_map}
 use Rattle.deck_shape.specs.Forms.{form_of}
-use Rattle.deck_shape.specs.Tables.{is_spelled}
+use Rattle.deck_words.specs.Tables.{is_spelled}
 use Rattle.deck_shape.specs.declared.form.WordForm.{WordForm}
 
 -- what holds of each form of a table holds of that of a word

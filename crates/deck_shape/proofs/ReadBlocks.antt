@@ -9,11 +9,11 @@ use Rattle.deck_shape.specs.Blocks.{BlockLines}
 use Rattle.deck_shape.specs.LineFaults.{closes, closes_file, fault_at, is_outermost, read_below}
 use Rattle.deck_shape.specs.LineWords.{head_of, is_row}
 use Rattle.deck_shape.specs.Reading.{SoFar, after_line, after_row, after_word, block_of, form_below, read_after, rule_at}
-use Rattle.deck_shape.specs.Tables.{is_spelled, rule_for, rules_of}
+use Rattle.deck_words.specs.Tables.{is_spelled, rule_for, rules_of}
 use Rattle.deck_shape.specs.declared.reading.Below.{Below}
 use Rattle.deck_shape.specs.declared.reading.Below.TheVariants.{Words, Rows, Enclosed}
-use Rattle.deck_shape.specs.declared.table.BlockForm.{BlockForm}
-use Rattle.deck_shape.specs.declared.table.Rule.{Rule}
+use Rattle.deck_words.specs.declared.table.BlockForm.{BlockForm}
+use Rattle.deck_words.specs.declared.table.Rule.{Rule}
 use Rattle.deck_shape.proofs.PassedLines.{read_after-last}
 use Rattle.deck_shape.proofs.Maps.{IfSome-find}
 

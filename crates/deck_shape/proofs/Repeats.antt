@@ -13,7 +13,7 @@ use Rattle.std.proofs.lemmas.Bool.{or_cases, or_left, or_right}
 use Rattle.std.proofs.lemmas.Bool.Decides.{nat_tests}
 use Rattle.std.proofs.lemmas.List.{map-append, take-append-drop}
 use Rattle.deck_shape.specs.Lists.{names_repeat}
-use Rattle.deck_shape.specs.Tables.{same_word}
+use Rattle.deck_words.specs.Tables.{same_word}
 
 -- the order of the words that were seen
 abbrev pub word_cmp : Bor (List ℕ) → Bor (List ℕ) → Ordering

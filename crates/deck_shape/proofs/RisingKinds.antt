@@ -10,8 +10,8 @@ use Rattle.deck_shape.specs.LineWords.{is_row}
 use Rattle.deck_shape.specs.Lists.{fault_if}
 use Rattle.deck_shape.specs.Numbers.{lesser}
 use Rattle.deck_shape.specs.Reading.{SoFar, rule_at}
-use Rattle.deck_shape.specs.declared.kind.TheConstants.{STRAY_ROW, UNKNOWN_WORD}
-use Rattle.deck_shape.specs.declared.table.Rule.{Rule}
+use Rattle.deck_words.specs.declared.kind.TheConstants.{STRAY_ROW, UNKNOWN_WORD}
+use Rattle.deck_words.specs.declared.table.Rule.{Rule}
 
 -- the kinds rise along a list of faults
 abbrev pub Rise : List (Bool × ℕ) → Type 0

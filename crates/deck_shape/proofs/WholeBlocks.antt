@@ -10,17 +10,17 @@ use Rattle.deck_shape.specs.LineFaults.{block_of_text, closes, fault_at, first_k
 use Rattle.deck_shape.specs.LineFaults.{is_stray_row, is_unknown, is_unsupported, line_count, misses_word, names_no_lattice, rule_faults}
 use Rattle.deck_shape.specs.LineWords.{arguments_of, head_of}
 use Rattle.deck_shape.specs.Reading.{SoFar, after_word, block_of, nothing_read, rule_at}
-use Rattle.deck_shape.specs.Tables.{allows, rule_for, rules_of}
-use Rattle.deck_shape.specs.declared.kind.TheConstants.{ARGUMENT_COUNT, MISSING_WORD, REPEATED_WORD, STRAY_ROW, UNKNOWN_LATTICE}
-use Rattle.deck_shape.specs.declared.kind.TheConstants.{UNKNOWN_WORD, UNSUPPORTED_WORD}
+use Rattle.deck_words.specs.Tables.{allows, rule_for, rules_of}
+use Rattle.deck_words.specs.declared.kind.TheConstants.{ARGUMENT_COUNT, MISSING_WORD, REPEATED_WORD, STRAY_ROW, UNKNOWN_LATTICE}
+use Rattle.deck_words.specs.declared.kind.TheConstants.{UNKNOWN_WORD, UNSUPPORTED_WORD}
 use Rattle.deck_shape.specs.declared.reading.Below.{Below}
 use Rattle.deck_shape.specs.declared.reading.Below.TheVariants.{Words, Rows, Enclosed}
-use Rattle.deck_shape.specs.declared.table.BlockForm.{BlockForm}
-use Rattle.deck_shape.specs.declared.table.BlockForm.TheVariants.{Simulation, LatticeFile, DefaultChoice, PeriodicCell, Explicit}
-use Rattle.deck_shape.specs.declared.table.BlockForm.TheVariants.{NeighboringStructure, LatticeStructure}
-use Rattle.deck_shape.specs.declared.table.Role.{Role}
-use Rattle.deck_shape.specs.declared.table.Role.TheVariants.{Value, Rows as HasRows, Encloses, BeginsLattice, Closes, Unsupported}
-use Rattle.deck_shape.specs.declared.table.Rule.{Rule}
+use Rattle.deck_words.specs.declared.table.BlockForm.{BlockForm}
+use Rattle.deck_words.specs.declared.table.BlockForm.TheVariants.{Simulation, LatticeFile, DefaultChoice, PeriodicCell, Explicit}
+use Rattle.deck_words.specs.declared.table.BlockForm.TheVariants.{NeighboringStructure, LatticeStructure}
+use Rattle.deck_words.specs.declared.table.Role.{Role}
+use Rattle.deck_words.specs.declared.table.Role.TheVariants.{Value, Rows as HasRows, Encloses, BeginsLattice, Closes, Unsupported}
+use Rattle.deck_words.specs.declared.table.Rule.{Rule}
 use Rattle.deck_shape.specs.WholeBlocks.{IsKnown, IsWhole}
 use Rattle.deck_shape.proofs.ReadBlocks.{read_has, role_of, rule_in}
 

@@ -4,14 +4,14 @@ use Rattle.std.specs.List.{list_any}
 use Rattle.dec_text.specs.Lines.{Run, WordLine}
 use Rattle.dec_text.specs.Spans.{line_at, run_at}
 use Rattle.deck_shape.specs.LineWords.{head_of}
-use Rattle.deck_shape.specs.Tables.{is_spelled}
-use Rattle.deck_shape.specs.declared.keyword.Keyword.{Keyword}
+use Rattle.deck_words.specs.Tables.{is_spelled}
+use Rattle.deck_words.specs.declared.keyword.Keyword.{Keyword}
 use Rattle.deck_shape.specs.declared.shape.Block.{Block}
 use Rattle.deck_shape.specs.declared.shape.Item.{Item}
-use Rattle.deck_shape.specs.declared.table.BlockForm.{BlockForm}
-use Rattle.deck_shape.specs.declared.table.Need.{Need}
-use Rattle.deck_shape.specs.declared.table.Need.TheVariants.{Optional, Required, ThisOr}
-use Rattle.deck_shape.specs.declared.table.Rule.{Rule}
+use Rattle.deck_words.specs.declared.table.BlockForm.{BlockForm}
+use Rattle.deck_words.specs.declared.table.Need.{Need}
+use Rattle.deck_words.specs.declared.table.Need.TheVariants.{Optional, Required, ThisOr}
+use Rattle.deck_words.specs.declared.table.Rule.{Rule}
 
 -- a word line, and the rows that belong to it
 pub record ItemLines : Type 0 where

@@ -1,7 +1,7 @@
 -- The forms of words, by the tables that the readers read too.
 use Rattle.std.specs.Prelude.{ℕ, List, Option, find}
 use Rattle.std.specs.Option.{option_map}
-use Rattle.deck_shape.specs.Tables.{is_spelled}
+use Rattle.deck_words.specs.Tables.{is_spelled}
 use Rattle.deck_shape.specs.declared.form.WordForm.{WordForm}
 
 -- the form of a word, where the table has the word

@@ -1,5 +1,3 @@
-pub mod Keywords
-pub mod Tables
 pub mod LineWords
 pub mod Blocks
 pub mod Lists

@@ -10,17 +10,17 @@ use Rattle.deck_shape.specs.LineWords.{arguments_of, is_row}
 use Rattle.deck_shape.specs.Lists.{fault_if}
 use Rattle.deck_shape.specs.Numbers.{lesser}
 use Rattle.deck_shape.specs.Reading.{SoFar, argument_of, block_of, lattice_block, read_after, nothing_read, rule_at}
-use Rattle.deck_shape.specs.Tables.{allows, rules_of}
-use Rattle.deck_shape.specs.declared.kind.TheConstants.{STRAY_ROW, UNKNOWN_WORD, UNSUPPORTED_WORD, ARGUMENT_COUNT, REPEATED_WORD}
-use Rattle.deck_shape.specs.declared.kind.TheConstants.{MISSING_WORD, NOT_CLOSED, UNKNOWN_LATTICE}
+use Rattle.deck_words.specs.Tables.{allows, rules_of}
+use Rattle.deck_words.specs.declared.kind.TheConstants.{STRAY_ROW, UNKNOWN_WORD, UNSUPPORTED_WORD, ARGUMENT_COUNT, REPEATED_WORD}
+use Rattle.deck_words.specs.declared.kind.TheConstants.{MISSING_WORD, NOT_CLOSED, UNKNOWN_LATTICE}
 use Rattle.deck_shape.specs.declared.reading.Below.{Below}
 use Rattle.deck_shape.specs.declared.reading.Below.TheVariants.{Words, Rows, Enclosed}
-use Rattle.deck_shape.specs.declared.table.BlockForm.{BlockForm}
-use Rattle.deck_shape.specs.declared.table.Need.{Need}
-use Rattle.deck_shape.specs.declared.table.Need.TheVariants.{Optional, Required, ThisOr}
-use Rattle.deck_shape.specs.declared.table.Role.{Role}
-use Rattle.deck_shape.specs.declared.table.Role.TheVariants.{Value, Rows as HasRows, Encloses, BeginsLattice, Closes, Unsupported}
-use Rattle.deck_shape.specs.declared.table.Rule.{Rule}
+use Rattle.deck_words.specs.declared.table.BlockForm.{BlockForm}
+use Rattle.deck_words.specs.declared.table.Need.{Need}
+use Rattle.deck_words.specs.declared.table.Need.TheVariants.{Optional, Required, ThisOr}
+use Rattle.deck_words.specs.declared.table.Role.{Role}
+use Rattle.deck_words.specs.declared.table.Role.TheVariants.{Value, Rows as HasRows, Encloses, BeginsLattice, Closes, Unsupported}
+use Rattle.deck_words.specs.declared.table.Rule.{Rule}
 
 -- the next line may be a row
 abbrev pub takes_rows : Below → Bool

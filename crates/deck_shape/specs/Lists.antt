@@ -2,8 +2,8 @@
 use Rattle.std.specs.Prelude.{ℕ, ◌==◌, ◌||◌, Bool, false, not, List, [], ◌∷◌, length, Option, None, Some, if◌then◌else◌}
 use Rattle.std.specs.List.{list_any}
 use Rattle.deck_shape.specs.Numbers.{lesser}
-use Rattle.deck_shape.specs.Tables.{same_word}
-use Rattle.deck_shape.specs.declared.kind.TheConstants.{LIST_LENGTH, REPEATED_NAME}
+use Rattle.deck_words.specs.Tables.{same_word}
+use Rattle.deck_words.specs.declared.kind.TheConstants.{LIST_LENGTH, REPEATED_NAME}
 
 -- this kind of fault, where it holds
 abbrev pub fault_if : Bool → ℕ → Option ℕ

@@ -8,7 +8,7 @@ use Rattle.dec_text.specs.declared.faults.DecimalFault.{DecimalFault}
 use Rattle.dec_text.specs.declared.faults.DecimalFault.TheVariants.{Form, Power}
 use Rattle.dec_text.specs.declared.faults.NotWhole.{NotWhole}
 use Rattle.dec_text.specs.declared.faults.OutOfRange.{OutOfRange}
-use Rattle.deck_shape.specs.declared.kind.TheConstants.{NOT_NUMBER, NOT_WHOLE, OUT_OF_RANGE}
+use Rattle.deck_words.specs.declared.kind.TheConstants.{NOT_NUMBER, NOT_WHOLE, OUT_OF_RANGE}
 use Rattle.deck_shape.specs.declared.number.NumberForm.{NumberForm}
 use Rattle.deck_shape.specs.declared.number.NumberForm.TheVariants.{Whole, Scaled, UpTo, Unused}
 

@@ -6,14 +6,14 @@ use Rattle.kmc_base.specs.declared.ids.FileId.{FileId}
 use Rattle.kmc_base.specs.declared.ids.FileId.TheVariants.{Simulation as SimulationFile, Lattice as LatticeText, Energetics, Mechanism, State}
 use Rattle.deck_shape.specs.Blocks.{BlockLines, with_row}
 use Rattle.deck_shape.specs.LineWords.{arguments_of, first_of, head_of, is_row}
-use Rattle.deck_shape.specs.Tables.{rule_for, same_word}
+use Rattle.deck_words.specs.Tables.{rule_for, same_word}
 use Rattle.deck_shape.specs.declared.reading.Below.{Below}
 use Rattle.deck_shape.specs.declared.reading.Below.TheVariants.{Words, Rows, Enclosed}
-use Rattle.deck_shape.specs.declared.table.BlockForm.{BlockForm}
-use Rattle.deck_shape.specs.declared.table.BlockForm.TheVariants.{Simulation, LatticeFile, DefaultChoice, PeriodicCell, Explicit}
-use Rattle.deck_shape.specs.declared.table.Role.{Role}
-use Rattle.deck_shape.specs.declared.table.Role.TheVariants.{Value, Rows as HasRows, Encloses, BeginsLattice, Closes, Unsupported}
-use Rattle.deck_shape.specs.declared.table.Rule.{Rule}
+use Rattle.deck_words.specs.declared.table.BlockForm.{BlockForm}
+use Rattle.deck_words.specs.declared.table.BlockForm.TheVariants.{Simulation, LatticeFile, DefaultChoice, PeriodicCell, Explicit}
+use Rattle.deck_words.specs.declared.table.Role.{Role}
+use Rattle.deck_words.specs.declared.table.Role.TheVariants.{Value, Rows as HasRows, Encloses, BeginsLattice, Closes, Unsupported}
+use Rattle.deck_words.specs.declared.table.Rule.{Rule}
 
 -- what has been read of a file after some of its lines: its block so far, and what the next line may be
 pub record SoFar : Type 0 where

@@ -9,7 +9,7 @@ use Rattle.deck_shape.specs.WholeBlocks.{IsLatticeForm, IsWhole}
 use Rattle.deck_shape.specs.declared.fault.DeckFault.{DeckFault}
 use Rattle.deck_shape.specs.declared.fault.DeckFault.TheVariants.{Fault as Faulty, OutOfMemory}
 use Rattle.deck_shape.specs.declared.shape.Shape.{Shape}
-use Rattle.deck_shape.specs.declared.table.BlockForm.{BlockForm}
+use Rattle.deck_words.specs.declared.table.BlockForm.{BlockForm}
 
 -- the shape of a text of a file: it has one block, that of the text, which is whole; in a lattice file it is that of a
 -- lattice

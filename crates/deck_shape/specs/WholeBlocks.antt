@@ -4,12 +4,12 @@ use Rattle.std.specs.List.{AllByRecursion, list_any}
 use Rattle.deck_shape.specs.Blocks.{BlockLines, ItemLines}
 use Rattle.deck_shape.specs.LineFaults.{is_missing}
 use Rattle.deck_shape.specs.LineWords.{arguments_of, head_of}
-use Rattle.deck_shape.specs.Tables.{allows, rule_for, rules_of}
-use Rattle.deck_shape.specs.declared.table.BlockForm.{BlockForm}
-use Rattle.deck_shape.specs.declared.table.BlockForm.TheVariants.{Simulation, LatticeFile, DefaultChoice, PeriodicCell, Explicit}
-use Rattle.deck_shape.specs.declared.table.BlockForm.TheVariants.{NeighboringStructure as NeighboringRows}
-use Rattle.deck_shape.specs.declared.table.BlockForm.TheVariants.{LatticeStructure as LatticeRows}
-use Rattle.deck_shape.specs.declared.table.Rule.{Rule}
+use Rattle.deck_words.specs.Tables.{allows, rule_for, rules_of}
+use Rattle.deck_words.specs.declared.table.BlockForm.{BlockForm}
+use Rattle.deck_words.specs.declared.table.BlockForm.TheVariants.{Simulation, LatticeFile, DefaultChoice, PeriodicCell, Explicit}
+use Rattle.deck_words.specs.declared.table.BlockForm.TheVariants.{NeighboringStructure as NeighboringRows}
+use Rattle.deck_words.specs.declared.table.BlockForm.TheVariants.{LatticeStructure as LatticeRows}
+use Rattle.deck_words.specs.declared.table.Rule.{Rule}
 
 -- a block that is a lattice, in one of its three forms
 abbrev pub IsLatticeForm : BlockForm → Type 0

@@ -6,7 +6,7 @@ use Rattle.dec_text.specs.Lines.{Run}
 use Rattle.deck_shape.specs.Blocks.{ItemLines, has_keyword}
 use Rattle.deck_shape.specs.LineWords.{arguments_of}
 use Rattle.deck_shape.specs.Names.{NameWord, on_line}
-use Rattle.deck_shape.specs.declared.keyword.Keyword.{Keyword}
+use Rattle.deck_words.specs.declared.keyword.Keyword.{Keyword}
 
 -- the bytes of the words behind the keyword of a line
 abbrev pub words_of : ItemLines → List (List ℕ)

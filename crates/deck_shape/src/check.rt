@@ -5,48 +5,20 @@ ghost use Rattle.dec_text.specs.Spans.{line_at};
 ghost use Rattle.deck_shape.specs.Blocks.{has_keyword, has_other, has_word_of, item_at, stands};
 ghost use Rattle.deck_shape.specs.LineFaults.{closes, closes_file, fault_at, first_kind, has_other_count, is_missing, is_repeated, is_unsupported, misses_word, names_no_lattice, rule_faults, takes_rows};
 ghost use Rattle.deck_shape.specs.LineWords.{is_row};
-ghost use Rattle.deck_shape.specs.declared.kind.TheConstants.{STRAY_ROW};
+ghost use Rattle.deck_words.specs.declared.kind.TheConstants.{STRAY_ROW};
 ghost use Rattle.deck_shape.specs.Reading.{rule_at};
-ghost use Rattle.deck_shape.specs.Tables.{allows, is_spelled, rule_for, rules_of};
+ghost use Rattle.deck_words.specs.Tables.{rules_of};
 ghost use Rattle.deck_shape.specs.Views.{reading_at};
 
-use crate::keyword::Keyword;
-use crate::kind::{
-    ARGUMENT_COUNT, MISSING_WORD, REPEATED_WORD, STRAY_ROW, UNKNOWN_LATTICE, UNKNOWN_WORD,
-    UNSUPPORTED_WORD,
-};
 use crate::line_words::{argument, argument_count, begins_row, head};
 use crate::reading::{Below, Reading, lattice_block};
 use crate::shape::Item;
-use crate::table::{Arguments, BlockForm, Need, Role, Rule};
 use dec_text::Line;
-
-/// So many arguments are allowed.
-fn allows(arguments: Arguments, count: usize) -> bool
-    ensures { result ≡ allows arguments count }
-{
-    match arguments {
-        Arguments::Exactly(n) => count == n,
-        Arguments::Between(least, most) => least <= count && count <= most,
-        Arguments::Any => true,
-    }
-}
-
-/// A word is spelled as a keyword.
-pub(crate) fn is_spelled(keyword: Keyword, word: &[u8]) -> bool
-    ensures { result ≡ is_spelled keyword word.now }
-{
-    keyword.spelling() == word
-}
-
-/// The rule of a word in a block, where the block has the word.
-fn rule_for(form: BlockForm, word: &[u8]) -> Option<&'static Rule>
-    ensures { option_copied result ≡ rule_for form word.now }
-{
-    form.rules()
-        .iter()
-        .find(|rule| is_spelled(rule.keyword, word))
-}
+use deck_words::kind::{
+    ARGUMENT_COUNT, MISSING_WORD, REPEATED_WORD, STRAY_ROW, UNKNOWN_LATTICE, UNKNOWN_WORD,
+    UNSUPPORTED_WORD,
+};
+use deck_words::{BlockForm, Keyword, Need, Role, Rule, is_spelled};
 
 /// A line is a row.
 pub(crate) fn is_row(bytes: &[u8], line: &Line) -> bool
@@ -63,7 +35,7 @@ pub(crate) fn rule_at(reading: &Reading, bytes: &[u8], line: &Line) -> Option<&'
     if begins_row(word) {
         None
     } else {
-        rule_for(reading.block(), word)
+        reading.block().rule_for(word)
     }
 }
 
@@ -142,7 +114,7 @@ fn is_unsupported(role: Role) -> bool
 fn has_other_count(line: &Line, rule: &Rule) -> bool
     ensures { (text : List ℕ) → result ≡ has_other_count (line_at text line.now) rule.now }
 {
-    !allows(rule.arguments, argument_count(line))
+    !rule.arguments.allow(argument_count(line))
 }
 
 /// A word that a block may have once is there again.

@@ -1,8 +1,7 @@
 ghost use Rattle.std.specs.Prelude.{◌≡◌};
 ghost use Rattle.deck_shape.specs.Forms.{form_of};
 
-use crate::check::is_spelled;
-use crate::keyword::Keyword;
+use deck_words::{Keyword, is_spelled};
 
 /// A word and the form of what it takes, as an entry of a file's table of forms.
 #[derive(Clone, Copy, Debug)]

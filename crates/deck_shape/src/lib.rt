@@ -9,8 +9,6 @@
 mod check;
 mod fault;
 mod form;
-mod keyword;
-pub mod kind;
 mod line_words;
 mod list;
 mod name;
@@ -18,11 +16,9 @@ mod number;
 mod reader;
 mod reading;
 mod shape;
-mod table;
 
 pub use fault::{DeckFault, Fault, fault_or, line_fault};
 pub use form::{WordForm, form_of};
-pub use keyword::Keyword;
 pub use line_words::NO_WORD;
 pub use list::{fault_if, has_other_length, names_fault, names_repeat};
 pub use name::Name;
@@ -31,4 +27,4 @@ pub use number::{
 };
 pub use reader::read_shape;
 pub use shape::{Block, Item, Shape};
-pub use table::{Arguments, BlockForm, Need, Role, Rule};
+pub use deck_words::{Arguments, BlockForm, Keyword, Need, Role, Rule, kind};

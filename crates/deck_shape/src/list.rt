@@ -2,8 +2,8 @@ ghost use Rattle.std.specs.Prelude.{◌≡◌, IfOk, map};
 ghost use Rattle.dec_text.specs.Spans.{bytes_at};
 ghost use Rattle.deck_shape.specs.Lists.{fault_if, has_other_length, names_fault, names_repeat};
 
-use crate::kind::{LIST_LENGTH, REPEATED_NAME};
 use dec_text::Span;
+use deck_words::kind::{LIST_LENGTH, REPEATED_NAME};
 use kmc_base::OutOfMemory;
 use std::alloc::Global;
 use std::collections::BTreeSet;

@@ -4,8 +4,8 @@ ghost use Rattle.dec_text.specs.Wholes.{whole_number};
 ghost use Rattle.deck_shape.specs.Numbers.{decimal_kind, decimal_value, is_at_most, is_up_to, lesser, number_fault, numbers_fault, passes, up_to_value, whole_kind, whole_value, IsNumber};
 ghost use Rattle.dec_text.specs.Spans.{bytes_at};
 
-use crate::kind::{NOT_NUMBER, NOT_WHOLE, OUT_OF_RANGE};
 use dec_text::{Decimal, DecimalFault, Span, read_decimal, read_whole};
+use deck_words::kind::{NOT_NUMBER, NOT_WHOLE, OUT_OF_RANGE};
 
 /// How a number is written, and its range.
 #[derive(Clone, Copy, Debug, PartialEq, Eq)]

@@ -9,11 +9,11 @@ ghost use Rattle.deck_shape.specs.Views.{reading_at};
 
 use crate::check::{closes_file, fault_at, is_row, rule_at};
 use crate::fault::{DeckFault, Fault};
-use crate::kind::NOT_CLOSED;
 use crate::reading::{Reading, first_block};
 use crate::shape::{Block, Shape};
-use crate::table::BlockForm;
 use dec_text::{FIRST_LINE, Line, next_line};
+use deck_words::BlockForm;
+use deck_words::kind::NOT_CLOSED;
 use kmc_base::{FileId, OutOfMemory, Sequence};
 use std::alloc::Global;
 

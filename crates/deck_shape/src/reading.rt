@@ -6,8 +6,8 @@ ghost use Rattle.deck_shape.specs.Views.{reading_at};
 
 use crate::line_words::{NO_WORD, argument, head};
 use crate::shape::{Block, Item};
-use crate::table::{BlockForm, Role};
 use dec_text::{Line, Span};
+use deck_words::{BlockForm, Role};
 use kmc_base::{FileId, OutOfMemory, Sequence};
 use std::alloc::Global;
 

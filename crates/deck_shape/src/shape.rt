@@ -8,11 +8,10 @@ ghost use Rattle.deck_shape.specs.LineWords.{arguments_of, head_of};
 ghost use Rattle.deck_shape.specs.Names.{name_at};
 
 use crate::check::first_item;
-use crate::keyword::Keyword;
 use crate::line_words::{arguments, head};
 use crate::name::{Name, names_of};
-use crate::table::BlockForm;
 use dec_text::{Line, Span};
+use deck_words::{BlockForm, Keyword};
 use kmc_base::{OutOfMemory, Sequence};
 use std::alloc::Global;
 

@@ -8,7 +8,7 @@ use Rattle.deck_shape.specs.declared.fault.DeckFault.{DeckFault}
 use Rattle.deck_shape.specs.declared.fault.DeckFault.TheVariants.{Fault as Faulty, OutOfMemory}
 use Rattle.deck_shape.specs.declared.fault.Fault.{Fault}
 use Rattle.deck_shape.specs.declared.shape.Shape.{Shape}
-use Rattle.deck_shape.specs.declared.table.BlockForm.{BlockForm}
+use Rattle.deck_words.specs.declared.table.BlockForm.{BlockForm}
 use Rattle.kmc_base.specs.declared.ids.FileId.{FileId}
 use Rattle.kmc_run.specs.PlainDecks.{Ends, and_then, in_file}
 

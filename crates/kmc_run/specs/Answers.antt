@@ -1,6 +1,6 @@
 -- What the program may answer, and what it leaves in the outputs.
 use Rattle.std.specs.Prelude.{◌≡◌, ◌≢◌, ℕ, [], ◌∷◌, Bool, false, List, Option, None, Some, IfSome, Result, Ok, Err, codes, if◌then◌else◌}
-use Rattle.deck_shape.specs.Tables.{same_word}
+use Rattle.deck_words.specs.Tables.{same_word}
 use Rattle.deck_shape.specs.declared.fault.Fault.{Fault}
 use Rattle.kmc_base.specs.Numbered.{Numbered, next_fails, one_call_more}
 use Rattle.kmc_base.specs.Outs.{Outs}

@@ -7,8 +7,8 @@ use Rattle.deck_shape.specs.Names.{NameWord}
 use Rattle.deck_shape.specs.declared.fault.DeckFault.{DeckFault}
 use Rattle.deck_shape.specs.declared.fault.DeckFault.TheVariants.{Fault as Faulty, OutOfMemory}
 use Rattle.deck_shape.specs.declared.fault.Fault.{Fault}
-use Rattle.deck_shape.specs.declared.kind.TheConstants.{FILE_ABSENT, FILE_TOO_LONG, NOT_BUILT}
-use Rattle.deck_shape.specs.declared.table.BlockForm.TheVariants.{Simulation as SimulationBlock, LatticeFile as LatticeBlock}
+use Rattle.deck_words.specs.declared.kind.TheConstants.{FILE_ABSENT, FILE_TOO_LONG, NOT_BUILT}
+use Rattle.deck_words.specs.declared.table.BlockForm.TheVariants.{Simulation as SimulationBlock, LatticeFile as LatticeBlock}
 use Rattle.fixed_math.specs.DecimalLogarithm.{lg_of_decimal}
 use Rattle.kmc_base.specs.Files.{Files}
 use Rattle.kmc_base.specs.declared.ids.FileId.{FileId}

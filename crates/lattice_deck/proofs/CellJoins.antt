@@ -8,7 +8,7 @@ use Rattle.std.proofs.lemmas.Bool.{and_cases, cases_Bool, cases_eq, eq-eqb, eqb-
 use Rattle.std.proofs.lemmas.Bool.{or_right, true≢false}
 use Rattle.dec_text.specs.Lines.{WordLine}
 use Rattle.deck_shape.specs.Lists.{has_other_length}
-use Rattle.deck_shape.specs.declared.kind.TheConstants.{BAD_EDGE, ROW_FORM, SELF_NEIGHBOUR}
+use Rattle.deck_words.specs.declared.kind.TheConstants.{BAD_EDGE, ROW_FORM, SELF_NEIGHBOUR}
 use Rattle.lattice_core.specs.Fault.{first_fault}
 use Rattle.lattice_cell.specs.Cells.{IsInCell}
 use Rattle.lattice_cell.specs.Periodic.{neighbour_lists}

@@ -5,7 +5,7 @@ use Rattle.std.proofs.lemmas.Bool.{cases_eq, eqb-false, ltb-false, or_parts}
 use Rattle.kmc_base.specs.declared.limits.TheConstants.{MAX_SITES}
 use Rattle.deck_shape.specs.Lists.{fault_if}
 use Rattle.deck_shape.specs.Numbers.{lesser, number_fault, numbers_fault}
-use Rattle.deck_shape.specs.declared.kind.TheConstants.{SELF_NEIGHBOUR, TOO_MANY_SITES}
+use Rattle.deck_words.specs.declared.kind.TheConstants.{SELF_NEIGHBOUR, TOO_MANY_SITES}
 use Rattle.deck_shape.specs.declared.number.NumberForm.TheVariants.{Unused}
 use Rattle.lattice_core.specs.declared.fault.GraphFault.{GraphFault}
 use Rattle.lattice_core.specs.declared.fault.GraphFault.TheVariants.{OutOfMemory}

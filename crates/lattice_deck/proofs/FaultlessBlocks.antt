@@ -12,24 +12,24 @@ use Rattle.dec_text.specs.Wholes.{whole_number}
 use Rattle.deck_shape.specs.Blocks.{BlockLines, ItemLines, has_keyword, stands}
 use Rattle.deck_shape.specs.Forms.{form_of}
 use Rattle.deck_shape.specs.WordLines.{list_in, words_behind, words_of}
-use Rattle.deck_shape.specs.Keywords.{spelling}
+use Rattle.deck_words.specs.Keywords.{spelling}
 use Rattle.deck_shape.specs.LineFaults.{is_missing}
 use Rattle.deck_shape.specs.LineWords.{arguments_of, head_of}
 use Rattle.deck_shape.specs.Lists.{fault_if, has_other_length, names_repeat}
 use Rattle.deck_shape.specs.Numbers.{numbers_fault, whole_kind}
-use Rattle.deck_shape.specs.Tables.{allows, rule_for, rules_of}
+use Rattle.deck_words.specs.Tables.{allows, rule_for, rules_of}
 use Rattle.deck_shape.specs.WholeBlocks.{IsKnown, IsLatticeForm, IsWhole}
-use Rattle.deck_shape.specs.declared.keyword.Keyword.{Keyword}
-use Rattle.deck_shape.specs.declared.keyword.Keyword.TheVariants.{HexagonalPeriodic, LatticeStructure, NCellSites, NSiteTypes, NSites}
-use Rattle.deck_shape.specs.declared.keyword.Keyword.TheVariants.{NeighboringStructure, RectangularPeriodic, RepeatCell, SiteTypeNames}
-use Rattle.deck_shape.specs.declared.keyword.Keyword.TheVariants.{SiteTypes}
-use Rattle.deck_shape.specs.declared.kind.TheConstants.{LIST_LENGTH, REPEATED_NAME, ROW_COUNT, TOO_MANY_NEIGHBOURS, TOO_MANY_SITES}
+use Rattle.deck_words.specs.declared.keyword.Keyword.{Keyword}
+use Rattle.deck_words.specs.declared.keyword.Keyword.TheVariants.{HexagonalPeriodic, LatticeStructure, NCellSites, NSiteTypes, NSites}
+use Rattle.deck_words.specs.declared.keyword.Keyword.TheVariants.{NeighboringStructure, RectangularPeriodic, RepeatCell, SiteTypeNames}
+use Rattle.deck_words.specs.declared.keyword.Keyword.TheVariants.{SiteTypes}
+use Rattle.deck_words.specs.declared.kind.TheConstants.{LIST_LENGTH, REPEATED_NAME, ROW_COUNT, TOO_MANY_NEIGHBOURS, TOO_MANY_SITES}
 use Rattle.deck_shape.specs.declared.number.NumberForm.TheVariants.{Whole}
-use Rattle.deck_shape.specs.declared.table.BlockForm.{BlockForm}
-use Rattle.deck_shape.specs.declared.table.BlockForm.TheVariants.{Simulation, LatticeFile, DefaultChoice, PeriodicCell, Explicit}
-use Rattle.deck_shape.specs.declared.table.BlockForm.TheVariants.{NeighboringStructure as NeighboringRows}
-use Rattle.deck_shape.specs.declared.table.BlockForm.TheVariants.{LatticeStructure as LatticeRows}
-use Rattle.deck_shape.specs.declared.table.Rule.{Rule}
+use Rattle.deck_words.specs.declared.table.BlockForm.{BlockForm}
+use Rattle.deck_words.specs.declared.table.BlockForm.TheVariants.{Simulation, LatticeFile, DefaultChoice, PeriodicCell, Explicit}
+use Rattle.deck_words.specs.declared.table.BlockForm.TheVariants.{NeighboringStructure as NeighboringRows}
+use Rattle.deck_words.specs.declared.table.BlockForm.TheVariants.{LatticeStructure as LatticeRows}
+use Rattle.deck_words.specs.declared.table.Rule.{Rule}
 use Rattle.kmc_base.specs.declared.limits.TheConstants.{MAX_SITES}
 use Rattle.lattice_cell.specs.declared.expand.DefaultLattice.TheVariants.{Hexagonal, Rectangular}
 use Rattle.lattice_deck.specs.Faultless.{AreTypeNames, AreFaultless, HasDefault, IsDefault, IsDefaultOf}

@@ -11,9 +11,9 @@ use Rattle.deck_shape.specs.Blocks.{ItemLines}
 use Rattle.deck_shape.specs.WordLines.{words_behind}
 use Rattle.deck_shape.specs.Lists.{fault_if}
 use Rattle.deck_shape.specs.Numbers.{is_whole_within, lesser, numbers_fault, whole_kind, whole_value}
-use Rattle.deck_shape.specs.declared.keyword.Keyword.{Keyword}
-use Rattle.deck_shape.specs.declared.keyword.Keyword.TheVariants.{NCellSites, NSiteTypes, NSites, RepeatCell}
-use Rattle.deck_shape.specs.declared.kind.TheConstants.{OUT_OF_RANGE, TOO_MANY_SITES}
+use Rattle.deck_words.specs.declared.keyword.Keyword.{Keyword}
+use Rattle.deck_words.specs.declared.keyword.Keyword.TheVariants.{NCellSites, NSiteTypes, NSites, RepeatCell}
+use Rattle.deck_words.specs.declared.kind.TheConstants.{OUT_OF_RANGE, TOO_MANY_SITES}
 use Rattle.deck_shape.proofs.Least.{holds_not, neither}
 use Rattle.lattice_deck.specs.Sizes.{AreRepeats, IsSizes, gives_too_many, or_else, repeats_kind, repeats_of, sites_in, sizes_in}
 use Rattle.lattice_deck.specs.Sizes.{sound_repeats, stated, whole_of}

@@ -5,7 +5,7 @@ use Rattle.std.specs.Option.{option_map}
 use Rattle.dec_text.specs.Spans.{bytes_at}
 use Rattle.deck_shape.proofs.Maps.{find-map}
 use Rattle.deck_shape.specs.Names.{NameWord, name_at}
-use Rattle.deck_shape.specs.declared.kind.TheConstants.{UNKNOWN_TYPE}
+use Rattle.deck_words.specs.declared.kind.TheConstants.{UNKNOWN_TYPE}
 use Rattle.deck_shape.specs.declared.name.Name.{Name}
 use Rattle.site_rows.specs.TypeWords.{type_of}
 use Rattle.lattice_deck.specs.Types.{unknown_type}

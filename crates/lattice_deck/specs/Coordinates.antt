@@ -1,7 +1,7 @@
 -- Rows of `cell_vectors` and `site_coordinates`: decimals whose form is checked, and which are used for nothing.
 use Rattle.std.specs.Prelude.{ℕ, ◌==◌, List, length, Option, None, Some, if◌then◌else◌}
 use Rattle.deck_shape.specs.Numbers.{numbers_fault}
-use Rattle.deck_shape.specs.declared.kind.TheConstants.{NOT_NUMBER, ROW_FORM}
+use Rattle.deck_words.specs.declared.kind.TheConstants.{NOT_NUMBER, ROW_FORM}
 use Rattle.deck_shape.specs.declared.number.NumberForm.TheVariants.{Unused}
 
 -- at a row a word of another form is a fault of the row's form

@@ -5,12 +5,12 @@ use Rattle.dec_text.specs.Lines.{WordLine}
 use Rattle.deck_shape.specs.Blocks.{ItemLines}
 use Rattle.deck_shape.specs.WordLines.{list_in, words_behind}
 use Rattle.deck_shape.specs.Lists.{names_repeat}
-use Rattle.deck_shape.specs.declared.keyword.Keyword.TheVariants.{HexagonalPeriodic, LatticeStructure, NeighboringStructure}
-use Rattle.deck_shape.specs.declared.keyword.Keyword.TheVariants.{RectangularPeriodic, SiteTypeNames, SiteTypes}
-use Rattle.deck_shape.specs.declared.table.BlockForm.{BlockForm}
-use Rattle.deck_shape.specs.declared.table.BlockForm.TheVariants.{Simulation, LatticeFile, DefaultChoice, PeriodicCell, Explicit}
-use Rattle.deck_shape.specs.declared.table.BlockForm.TheVariants.{NeighboringStructure as NeighboringRows}
-use Rattle.deck_shape.specs.declared.table.BlockForm.TheVariants.{LatticeStructure as LatticeRows}
+use Rattle.deck_words.specs.declared.keyword.Keyword.TheVariants.{HexagonalPeriodic, LatticeStructure, NeighboringStructure}
+use Rattle.deck_words.specs.declared.keyword.Keyword.TheVariants.{RectangularPeriodic, SiteTypeNames, SiteTypes}
+use Rattle.deck_words.specs.declared.table.BlockForm.{BlockForm}
+use Rattle.deck_words.specs.declared.table.BlockForm.TheVariants.{Simulation, LatticeFile, DefaultChoice, PeriodicCell, Explicit}
+use Rattle.deck_words.specs.declared.table.BlockForm.TheVariants.{NeighboringStructure as NeighboringRows}
+use Rattle.deck_words.specs.declared.table.BlockForm.TheVariants.{LatticeStructure as LatticeRows}
 use Rattle.deck_shape.specs.FirstFault.{first_of_lines}
 use Rattle.kmc_base.specs.declared.limits.TheConstants.{MAX_SITES}
 use Rattle.lattice_deck.specs.Faults.{default_kind, row_lines}

@@ -8,7 +8,7 @@ use Rattle.deck_shape.specs.WordLines.{words_of}
 use Rattle.deck_shape.specs.LineWords.{head_of}
 use Rattle.deck_shape.specs.Lists.{fault_if, has_other_length, names_fault}
 use Rattle.deck_shape.specs.Numbers.{lesser, number_fault, numbers_fault}
-use Rattle.deck_shape.specs.declared.kind.TheConstants.{LIST_LENGTH, ROW_COUNT, SELF_NEIGHBOUR, TOO_MANY_NEIGHBOURS}
+use Rattle.deck_words.specs.declared.kind.TheConstants.{LIST_LENGTH, ROW_COUNT, SELF_NEIGHBOUR, TOO_MANY_NEIGHBOURS}
 use Rattle.deck_shape.specs.declared.number.NumberForm.TheVariants.{Unused}
 use Rattle.deck_shape.specs.FirstFault.{fault_or, first_of_lines, line_fault}
 use Rattle.lattice_deck.specs.RowKinds.{kind_of}

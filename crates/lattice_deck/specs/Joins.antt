@@ -7,8 +7,8 @@ use Rattle.std.specs.Option.{option_map}
 use Rattle.std.specs.Result.{result_ok}
 use Rattle.dec_text.specs.Lines.{WordLine}
 use Rattle.dec_text.specs.Wholes.{whole_number}
-use Rattle.deck_shape.specs.Tables.{same_word}
-use Rattle.deck_shape.specs.declared.kind.TheConstants.{BAD_EDGE, ROW_FORM, SELF_NEIGHBOUR}
+use Rattle.deck_words.specs.Tables.{same_word}
+use Rattle.deck_words.specs.declared.kind.TheConstants.{BAD_EDGE, ROW_FORM, SELF_NEIGHBOUR}
 use Rattle.lattice_cell.specs.Cells.{displaced}
 use Rattle.lattice_cell.specs.Periodic.{neighbour_lists}
 use Rattle.lattice_cell.specs.declared.cell.Join.{Join}

@@ -7,13 +7,13 @@ use Rattle.deck_shape.specs.Blocks.{BlockLines, ItemLines, has_keyword}
 use Rattle.deck_shape.specs.WordLines.{list_in, names_in, words_behind}
 use Rattle.deck_shape.specs.LineWords.{first_of, after_first}
 use Rattle.deck_shape.specs.Names.{NameWord, name_at, on_line}
-use Rattle.deck_shape.specs.declared.keyword.Keyword.{Keyword}
-use Rattle.deck_shape.specs.declared.keyword.Keyword.TheVariants.{HexagonalPeriodic, LatticeStructure, NeighboringStructure}
-use Rattle.deck_shape.specs.declared.keyword.Keyword.TheVariants.{RectangularPeriodic, SiteTypeNames, SiteTypes}
-use Rattle.deck_shape.specs.declared.table.BlockForm.{BlockForm}
-use Rattle.deck_shape.specs.declared.table.BlockForm.TheVariants.{Simulation, LatticeFile, DefaultChoice, PeriodicCell, Explicit}
-use Rattle.deck_shape.specs.declared.table.BlockForm.TheVariants.{NeighboringStructure as NeighboringRows}
-use Rattle.deck_shape.specs.declared.table.BlockForm.TheVariants.{LatticeStructure as LatticeRows}
+use Rattle.deck_words.specs.declared.keyword.Keyword.{Keyword}
+use Rattle.deck_words.specs.declared.keyword.Keyword.TheVariants.{HexagonalPeriodic, LatticeStructure, NeighboringStructure}
+use Rattle.deck_words.specs.declared.keyword.Keyword.TheVariants.{RectangularPeriodic, SiteTypeNames, SiteTypes}
+use Rattle.deck_words.specs.declared.table.BlockForm.{BlockForm}
+use Rattle.deck_words.specs.declared.table.BlockForm.TheVariants.{Simulation, LatticeFile, DefaultChoice, PeriodicCell, Explicit}
+use Rattle.deck_words.specs.declared.table.BlockForm.TheVariants.{NeighboringStructure as NeighboringRows}
+use Rattle.deck_words.specs.declared.table.BlockForm.TheVariants.{LatticeStructure as LatticeRows}
 use Rattle.lattice_cell.specs.Default.{default_lattice}
 use Rattle.lattice_cell.specs.Periodic.{periodic_lattice}
 use Rattle.lattice_cell.specs.declared.expand.DefaultLattice.{DefaultLattice}

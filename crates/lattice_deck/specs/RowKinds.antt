@@ -1,7 +1,7 @@
 -- The kinds of the faults of rows of sites, by their numbers in kmc's table of faults.
 use Rattle.std.specs.Prelude.{ℕ, Bool, List, map}
-use Rattle.deck_shape.specs.declared.kind.TheConstants.{BAD_SITE, ONE_SIDED, OUT_OF_RANGE, REPEATED_SITE, ROW_FORM, SELF_NEIGHBOUR}
-use Rattle.deck_shape.specs.declared.kind.TheConstants.{TOO_MANY_NEIGHBOURS}
+use Rattle.deck_words.specs.declared.kind.TheConstants.{BAD_SITE, ONE_SIDED, OUT_OF_RANGE, REPEATED_SITE, ROW_FORM, SELF_NEIGHBOUR}
+use Rattle.deck_words.specs.declared.kind.TheConstants.{TOO_MANY_NEIGHBOURS}
 use Rattle.site_rows.specs.declared.faults.RowFault.{RowFault}
 use Rattle.site_rows.specs.declared.faults.RowFault.TheVariants.{BadSite, Form, OneSided, OutOfRange, Repeated, SelfNeighbour, TooManyNeighbours}
 

@@ -7,9 +7,9 @@ use Rattle.deck_shape.specs.Blocks.{ItemLines}
 use Rattle.deck_shape.specs.WordLines.{words_behind}
 use Rattle.deck_shape.specs.Lists.{fault_if}
 use Rattle.deck_shape.specs.Numbers.{lesser, numbers_fault, whole_value}
-use Rattle.deck_shape.specs.declared.keyword.Keyword.{Keyword}
-use Rattle.deck_shape.specs.declared.keyword.Keyword.TheVariants.{NCellSites, NSiteTypes, NSites, RepeatCell}
-use Rattle.deck_shape.specs.declared.kind.TheConstants.{TOO_MANY_SITES}
+use Rattle.deck_words.specs.declared.keyword.Keyword.{Keyword}
+use Rattle.deck_words.specs.declared.keyword.Keyword.TheVariants.{NCellSites, NSiteTypes, NSites, RepeatCell}
+use Rattle.deck_words.specs.declared.kind.TheConstants.{TOO_MANY_SITES}
 use Rattle.lattice_deck.specs.declared.forms.TheConstants.{REPEAT}
 use Rattle.lattice_deck.specs.declared.sizes.Sizes.{Sizes}
 use Rattle.site_rows.specs.declared.type_word.TheConstants.{MAX_SITE_TYPES}

@@ -3,7 +3,7 @@ use Rattle.std.specs.Prelude.{ℕ, ◌==◌, List, Option}
 use Rattle.std.specs.List.{find}
 use Rattle.std.specs.Option.{option_map}
 use Rattle.deck_shape.specs.Names.{NameWord}
-use Rattle.deck_shape.specs.declared.kind.TheConstants.{UNKNOWN_TYPE}
+use Rattle.deck_words.specs.declared.kind.TheConstants.{UNKNOWN_TYPE}
 use Rattle.site_rows.specs.TypeWords.{type_of}
 
 -- the first type word that is no type of these names, by its line and its kind

@@ -9,17 +9,17 @@ use Rattle.std.proofs.lemmas.List.{length-map}
 use Rattle.deck_shape.specs.Blocks.{ItemLines, has_keyword, has_other, stands}
 use Rattle.deck_shape.specs.Forms.{form_of}
 use Rattle.deck_shape.specs.WordLines.{words_behind, words_of}
-use Rattle.deck_shape.specs.Keywords.{spelling}
+use Rattle.deck_words.specs.Keywords.{spelling}
 use Rattle.deck_shape.specs.LineFaults.{is_missing, is_required}
 use Rattle.deck_shape.specs.LineWords.{arguments_of, head_of}
-use Rattle.deck_shape.specs.Tables.{allows, is_spelled, rule_for, rules_of, same_word}
+use Rattle.deck_words.specs.Tables.{allows, is_spelled, rule_for, rules_of, same_word}
 use Rattle.deck_shape.specs.WholeBlocks.{IsKnown}
-use Rattle.deck_shape.specs.declared.keyword.Keyword.{Keyword}
-use Rattle.deck_shape.specs.declared.table.Arguments.{Arguments}
-use Rattle.deck_shape.specs.declared.table.Arguments.TheVariants.{Exactly}
-use Rattle.deck_shape.specs.declared.table.BlockForm.TheVariants.{Simulation}
-use Rattle.deck_shape.specs.declared.table.Need.TheVariants.{Required}
-use Rattle.deck_shape.specs.declared.table.Rule.{Rule}
+use Rattle.deck_words.specs.declared.keyword.Keyword.{Keyword}
+use Rattle.deck_words.specs.declared.table.Arguments.{Arguments}
+use Rattle.deck_words.specs.declared.table.Arguments.TheVariants.{Exactly}
+use Rattle.deck_words.specs.declared.table.BlockForm.TheVariants.{Simulation}
+use Rattle.deck_words.specs.declared.table.Need.TheVariants.{Required}
+use Rattle.deck_words.specs.declared.table.Rule.{Rule}
 use Rattle.deck_shape.proofs.Maps.{IfSome-find}
 use Rattle.sim_deck.proofs.Maps.{is_some-find, is_some-map}
 use Rattle.sim_deck.proofs.NoFaults.{no_faults}

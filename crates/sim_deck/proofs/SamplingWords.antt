@@ -1,6 +1,6 @@
 -- samplings that have no words, or too many
 use Rattle.std.proofs.Common.{◌≡◌, ℕ, ◌≤◌, ◌<◌, List, [], ◌∷◌, length, map, Some, refl, arith}
-use Rattle.deck_shape.specs.declared.kind.TheConstants.{BAD_CHOICE}
+use Rattle.deck_words.specs.declared.kind.TheConstants.{BAD_CHOICE}
 use Rattle.sim_deck.specs.Samplings.{sampling_kind, sampling_of}
 use Rattle.sim_deck.specs.declared.part.Sampling.TheVariants.{Off}
 

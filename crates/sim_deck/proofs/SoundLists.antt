@@ -14,13 +14,13 @@ use Rattle.dec_text.specs.declared.faults.NotWhole.{NotWhole}
 use Rattle.deck_shape.specs.Blocks.{BlockLines, ItemLines, has_keyword, stands}
 use Rattle.deck_shape.specs.Forms.{form_of}
 use Rattle.deck_shape.specs.WordLines.{names_on, words_of}
-use Rattle.deck_shape.specs.Keywords.{spelling}
+use Rattle.deck_words.specs.Keywords.{spelling}
 use Rattle.deck_shape.specs.LineWords.{arguments_of}
 use Rattle.deck_shape.specs.Names.{on_line}
-use Rattle.deck_shape.specs.declared.keyword.Keyword.{Keyword}
-use Rattle.deck_shape.specs.declared.keyword.Keyword.TheVariants.{GasEnergies, GasMolarFracs, GasSpecsNames, NGasSpecies, NSurfSpecies}
-use Rattle.deck_shape.specs.declared.keyword.Keyword.TheVariants.{SurfSpecsDent, SurfSpecsNames}
-use Rattle.deck_shape.specs.declared.kind.TheConstants.{BAD_NAME, LIST_LENGTH, REPEATED_NAME}
+use Rattle.deck_words.specs.declared.keyword.Keyword.{Keyword}
+use Rattle.deck_words.specs.declared.keyword.Keyword.TheVariants.{GasEnergies, GasMolarFracs, GasSpecsNames, NGasSpecies, NSurfSpecies}
+use Rattle.deck_words.specs.declared.keyword.Keyword.TheVariants.{SurfSpecsDent, SurfSpecsNames}
+use Rattle.deck_words.specs.declared.kind.TheConstants.{BAD_NAME, LIST_LENGTH, REPEATED_NAME}
 use Rattle.sim_deck.proofs.KeywordLines.{no_fault_behind}
 use Rattle.sim_deck.proofs.Maps.{is_some-find}
 use Rattle.deck_shape.proofs.FirstFaults.{no_line}

@@ -9,17 +9,17 @@ use Rattle.dec_text.specs.Wholes.{whole_number}
 use Rattle.deck_shape.specs.Blocks.{BlockLines, ItemLines, has_keyword}
 use Rattle.deck_shape.specs.Forms.{form_of}
 use Rattle.deck_shape.specs.WordLines.{list_in, words_behind, words_of}
-use Rattle.deck_shape.specs.Keywords.{spelling}
+use Rattle.deck_words.specs.Keywords.{spelling}
 use Rattle.deck_shape.specs.LineFaults.{is_missing}
 use Rattle.deck_shape.specs.Numbers.{decimal_value, number_fault, numbers_fault, up_to_value, whole_value, zero}
-use Rattle.deck_shape.specs.Tables.{rules_of}
+use Rattle.deck_words.specs.Tables.{rules_of}
 use Rattle.deck_shape.specs.WholeBlocks.{IsKnown, IsWhole}
-use Rattle.deck_shape.specs.declared.keyword.Keyword.{Keyword}
-use Rattle.deck_shape.specs.declared.keyword.Keyword.TheVariants.{GasEnergies, GasMolarFracs, GasSpecsNames, MaxSteps, MaxTime}
-use Rattle.deck_shape.specs.declared.keyword.Keyword.TheVariants.{NGasSpecies, NSurfSpecies, Pressure, ProcessStatistics, RandomSeed}
-use Rattle.deck_shape.specs.declared.keyword.Keyword.TheVariants.{Snapshots, SpeciesNumbers, SurfSpecsDent, SurfSpecsNames, Temperature}
+use Rattle.deck_words.specs.declared.keyword.Keyword.{Keyword}
+use Rattle.deck_words.specs.declared.keyword.Keyword.TheVariants.{GasEnergies, GasMolarFracs, GasSpecsNames, MaxSteps, MaxTime}
+use Rattle.deck_words.specs.declared.keyword.Keyword.TheVariants.{NGasSpecies, NSurfSpecies, Pressure, ProcessStatistics, RandomSeed}
+use Rattle.deck_words.specs.declared.keyword.Keyword.TheVariants.{Snapshots, SpeciesNumbers, SurfSpecsDent, SurfSpecsNames, Temperature}
 use Rattle.deck_shape.specs.declared.number.NumberForm.{NumberForm as Sort}
-use Rattle.deck_shape.specs.declared.table.BlockForm.TheVariants.{Simulation}
+use Rattle.deck_words.specs.declared.table.BlockForm.TheVariants.{Simulation}
 use Rattle.sim_deck.proofs.KeywordLines.{TakesOne, has_required, no_fault_behind, one_behind, there}
 use Rattle.deck_shape.proofs.Least.{neither}
 use Rattle.kmc_base.specs.declared.limits.TheConstants.{MAX_DENTATES, MAX_ENERGY, MAX_EVENTS, MAX_SPECIES}

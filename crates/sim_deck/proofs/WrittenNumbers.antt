@@ -13,7 +13,7 @@ use Rattle.dec_text.specs.declared.faults.NotWhole.{NotWhole}
 use Rattle.dec_text.specs.declared.faults.OutOfRange.{OutOfRange}
 use Rattle.deck_shape.specs.Numbers.{decimal_kind, decimal_value, is_scaled, is_up_to, is_whole_within, number_fault, numbers_fault, passes}
 use Rattle.deck_shape.specs.Numbers.{scaled_or, up_to_value, whole_kind, whole_value, zero}
-use Rattle.deck_shape.specs.declared.kind.TheConstants.{OUT_OF_RANGE}
+use Rattle.deck_words.specs.declared.kind.TheConstants.{OUT_OF_RANGE}
 use Rattle.deck_shape.specs.declared.number.NumberForm.{NumberForm}
 use Rattle.deck_shape.specs.declared.number.NumberForm.TheVariants.{Whole, Scaled, UpTo}
 use Rattle.sim_deck.proofs.KeywordLines.{same_words}

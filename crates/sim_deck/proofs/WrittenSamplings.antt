@@ -2,8 +2,8 @@
 use Rattle.std.proofs.Common.{◌≡◌, ◌∙◌, ap, ℕ, pos, Bool, true, false, List, [], ◌∷◌, None, Some, refl, codes, inl, inr, if◌then◌else◌}
 use Rattle.std.proofs.lemmas.Bool.{and_parts}
 use Rattle.deck_shape.specs.Numbers.{number_fault}
-use Rattle.deck_shape.specs.Tables.{same_word}
-use Rattle.deck_shape.specs.declared.kind.TheConstants.{BAD_CHOICE}
+use Rattle.deck_words.specs.Tables.{same_word}
+use Rattle.deck_words.specs.declared.kind.TheConstants.{BAD_CHOICE}
 use Rattle.deck_shape.specs.declared.number.NumberForm.TheVariants.{Whole, Scaled}
 use Rattle.sim_deck.proofs.KeywordLines.{same_words}
 use Rattle.sim_deck.proofs.WrittenNumbers.{natural_is, whole_is}

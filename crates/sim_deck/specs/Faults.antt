@@ -8,10 +8,10 @@ use Rattle.deck_shape.specs.FirstFault.{fault_or, line_fault}
 use Rattle.deck_shape.specs.Forms.{form_of}
 use Rattle.deck_shape.specs.WordLines.{words_behind, words_of}
 use Rattle.deck_shape.specs.LineWords.{head_of}
-use Rattle.deck_shape.specs.Tables.{same_word}
-use Rattle.deck_shape.specs.declared.keyword.Keyword.{Keyword}
-use Rattle.deck_shape.specs.declared.keyword.Keyword.TheVariants.{NGasSpecies, NSurfSpecies}
-use Rattle.deck_shape.specs.declared.kind.TheConstants.{LIST_LENGTH}
+use Rattle.deck_words.specs.Tables.{same_word}
+use Rattle.deck_words.specs.declared.keyword.Keyword.{Keyword}
+use Rattle.deck_words.specs.declared.keyword.Keyword.TheVariants.{NGasSpecies, NSurfSpecies}
+use Rattle.deck_words.specs.declared.kind.TheConstants.{LIST_LENGTH}
 use Rattle.deck_shape.specs.Lists.{fault_if, has_other_length}
 use Rattle.kmc_base.specs.declared.limits.TheConstants.{MAX_SPECIES}
 use Rattle.sim_deck.specs.Lists.{Counts, count_of, has_members, names_kind}

@@ -2,8 +2,8 @@
 use Rattle.std.specs.Prelude.{ℕ, ◌||◌, Bool, false, List, Option, None, Some, codes, nat_lt}
 use Rattle.std.specs.List.{list_any}
 use Rattle.deck_shape.specs.Lists.{fault_if, names_fault}
-use Rattle.deck_shape.specs.Tables.{same_word}
-use Rattle.deck_shape.specs.declared.kind.TheConstants.{BAD_NAME}
+use Rattle.deck_words.specs.Tables.{same_word}
+use Rattle.deck_words.specs.declared.kind.TheConstants.{BAD_NAME}
 use Rattle.deck_shape.specs.Numbers.{lesser}
 use Rattle.sim_deck.specs.declared.forms.Count.{Count}
 use Rattle.sim_deck.specs.declared.forms.Count.TheVariants.{Gas, Surface}

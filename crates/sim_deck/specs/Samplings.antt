@@ -2,8 +2,8 @@
 use Rattle.std.specs.Prelude.{ℕ, ◌&&◌, Bool, List, [], ◌∷◌, Option, None, Some, if◌then◌else◌, codes, pos, unsigned_abs}
 use Rattle.dec_text.specs.Decimals.{decimal_of}
 use Rattle.dec_text.specs.Wholes.{whole_number}
-use Rattle.deck_shape.specs.Tables.{same_word}
-use Rattle.deck_shape.specs.declared.kind.TheConstants.{BAD_CHOICE}
+use Rattle.deck_words.specs.Tables.{same_word}
+use Rattle.deck_words.specs.declared.kind.TheConstants.{BAD_CHOICE}
 use Rattle.deck_shape.specs.Numbers.{decimal_value, number_fault, whole_value}
 use Rattle.deck_shape.specs.declared.number.NumberForm.TheVariants.{Whole, Scaled}
 use Rattle.kmc_base.specs.declared.limits.TheConstants.{END_OF_TIME, MAX_EVENTS}

@@ -7,10 +7,10 @@ use Rattle.dec_text.specs.Scaled.{scaled_value}
 use Rattle.dec_text.specs.Wholes.{whole_number}
 use Rattle.deck_shape.specs.Blocks.{ItemLines}
 use Rattle.deck_shape.specs.WordLines.{list_in, words_behind}
-use Rattle.deck_shape.specs.Tables.{same_word}
-use Rattle.deck_shape.specs.declared.keyword.Keyword.TheVariants.{GasEnergies, GasMolarFracs, GasSpecsNames, MaxSteps, MaxTime}
-use Rattle.deck_shape.specs.declared.keyword.Keyword.TheVariants.{NGasSpecies, NSurfSpecies, Pressure, ProcessStatistics, RandomSeed}
-use Rattle.deck_shape.specs.declared.keyword.Keyword.TheVariants.{Snapshots, SpeciesNumbers, SurfSpecsDent, SurfSpecsNames, Temperature}
+use Rattle.deck_words.specs.Tables.{same_word}
+use Rattle.deck_words.specs.declared.keyword.Keyword.TheVariants.{GasEnergies, GasMolarFracs, GasSpecsNames, MaxSteps, MaxTime}
+use Rattle.deck_words.specs.declared.keyword.Keyword.TheVariants.{NGasSpecies, NSurfSpecies, Pressure, ProcessStatistics, RandomSeed}
+use Rattle.deck_words.specs.declared.keyword.Keyword.TheVariants.{Snapshots, SpeciesNumbers, SurfSpecsDent, SurfSpecsNames, Temperature}
 use Rattle.sim_deck.specs.Values.{SimValues}
 use Rattle.kmc_base.specs.declared.limits.TheConstants.{MAX_EVENTS}
 use Rattle.sim_deck.specs.declared.part.Sampling.{Sampling}

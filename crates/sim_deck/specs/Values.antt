@@ -6,10 +6,10 @@ use Rattle.dec_text.specs.Wholes.{whole_number}
 use Rattle.deck_shape.specs.Blocks.{BlockLines, ItemLines}
 use Rattle.deck_shape.specs.WordLines.{list_in, names_in, words_behind}
 use Rattle.deck_shape.specs.Names.{NameWord, name_at}
-use Rattle.deck_shape.specs.declared.keyword.Keyword.{Keyword}
-use Rattle.deck_shape.specs.declared.keyword.Keyword.TheVariants.{RandomSeed, Temperature, Pressure, GasSpecsNames, GasEnergies}
-use Rattle.deck_shape.specs.declared.keyword.Keyword.TheVariants.{GasMolarFracs, SurfSpecsNames, SurfSpecsDent, Snapshots}
-use Rattle.deck_shape.specs.declared.keyword.Keyword.TheVariants.{ProcessStatistics, SpeciesNumbers, MaxSteps, MaxTime}
+use Rattle.deck_words.specs.declared.keyword.Keyword.{Keyword}
+use Rattle.deck_words.specs.declared.keyword.Keyword.TheVariants.{RandomSeed, Temperature, Pressure, GasSpecsNames, GasEnergies}
+use Rattle.deck_words.specs.declared.keyword.Keyword.TheVariants.{GasMolarFracs, SurfSpecsNames, SurfSpecsDent, Snapshots}
+use Rattle.deck_words.specs.declared.keyword.Keyword.TheVariants.{ProcessStatistics, SpeciesNumbers, MaxSteps, MaxTime}
 use Rattle.sim_deck.specs.Faults.{first_fault, is_infinity}
 use Rattle.deck_shape.specs.Numbers.{decimal_value, up_to_value, whole_value, zero}
 use Rattle.sim_deck.specs.Samplings.{sampling_of}

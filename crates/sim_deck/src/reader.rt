@@ -2,7 +2,7 @@ ghost use Rattle.std.specs.Prelude.{◌≡◌, ◌∷◌, [], IfErr, IfOk, Ok, m
 ghost use Rattle.deck_shape.specs.Blocks.{BlockLines, block_at};
 ghost use Rattle.deck_shape.specs.Shapes.{IsFaultOf, IsShapeOf};
 ghost use Rattle.deck_shape.specs.WholeBlocks.{IsWhole};
-ghost use Rattle.deck_shape.specs.declared.table.BlockForm.TheVariants.{Simulation as SimulationBlock};
+ghost use Rattle.deck_words.specs.declared.table.BlockForm.TheVariants.{Simulation as SimulationBlock};
 ghost use Rattle.kmc_base.specs.declared.ids.FileId.TheVariants.{Simulation};
 ghost use Rattle.sim_deck.specs.Soundness.{IsSoundPart};
 ghost use Rattle.sim_deck.specs.Stated.{StatesValues};

@@ -2,7 +2,7 @@ use Rattle.std.proofs.Common.{◌≡◌, ◌∙◌, ap, sym, false}
 use Rattle.dec_text.specs.Spans.{line_at}
 use Rattle.deck_shape.proofs.WordRules.{word_rule}
 use Rattle.deck_shape.specs.LineWords.{begins_row, head_of, is_row}
-use Rattle.deck_shape.specs.Tables.{rule_for}
+use Rattle.deck_words.specs.Tables.{rule_for}
 use Rattle.deck_shape.specs.Views.{reading_at}
 use Rattle.deck_shape.proofs.check.rule_at.Goals as goal
 

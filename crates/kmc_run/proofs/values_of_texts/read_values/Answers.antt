@@ -1,6 +1,6 @@
 use Rattle.std.proofs.Common.{refl}
 use Rattle.std.proofs.lemmas.Result.{err_from_is_err_and}
-use Rattle.deck_shape.specs.declared.table.BlockForm.TheVariants.{Simulation as SimulationBlock, LatticeFile as LatticeBlock}
+use Rattle.deck_words.specs.declared.table.BlockForm.TheVariants.{Simulation as SimulationBlock, LatticeFile as LatticeBlock}
 use Rattle.kmc_base.specs.declared.ids.FileId.TheVariants.{Simulation, Lattice}
 use Rattle.kmc_run.specs.PlainDecks.{values_in}
 use Rattle.kmc_run.proofs.Chains.{ends, lines_read}

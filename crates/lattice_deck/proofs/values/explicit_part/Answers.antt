@@ -1,7 +1,7 @@
 use Rattle.std.proofs.Common.{◌≡◌, ◌∙◌, map}
 use Rattle.deck_shape.specs.Blocks.{block_at}
 use Rattle.deck_shape.specs.WordLines.{list_in}
-use Rattle.deck_shape.specs.declared.keyword.Keyword.TheVariants.{SiteTypeNames}
+use Rattle.deck_words.specs.declared.keyword.Keyword.TheVariants.{SiteTypeNames}
 use Rattle.lattice_deck.proofs.values.explicit_part.Goals as goal
 
 pub returns : goal.returns

@@ -1,7 +1,7 @@
 use Rattle.std.proofs.Common.{◌≡◌, ◌∙◌, Some, ap, sym}
 use Rattle.deck_shape.specs.Blocks.{block_at}
 use Rattle.deck_shape.specs.LineFaults.{block_of_text}
-use Rattle.deck_shape.specs.declared.table.BlockForm.TheVariants.{Simulation as SimulationBlock}
+use Rattle.deck_words.specs.declared.table.BlockForm.TheVariants.{Simulation as SimulationBlock}
 use Rattle.deck_shape.proofs.FileForms.{simulation_form}
 use Rattle.sim_deck.proofs.reader.read.Goals as goal
 

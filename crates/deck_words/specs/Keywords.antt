@@ -1,15 +1,15 @@
 -- The keywords of the input files.
 use Rattle.std.specs.Prelude.{ℕ, List, codes}
-use Rattle.deck_shape.specs.declared.keyword.Keyword.{Keyword}
-use Rattle.deck_shape.specs.declared.keyword.Keyword.TheVariants.{RandomSeed, Temperature, Pressure, NGasSpecies, GasSpecsNames}
-use Rattle.deck_shape.specs.declared.keyword.Keyword.TheVariants.{GasEnergies, GasMolecWeights, GasMolarFracs, NSurfSpecies}
-use Rattle.deck_shape.specs.declared.keyword.Keyword.TheVariants.{SurfSpecsNames, SurfSpecsDent, Snapshots, ProcessStatistics}
-use Rattle.deck_shape.specs.declared.keyword.Keyword.TheVariants.{SpeciesNumbers, EventReport, MaxSteps, MaxTime, WallTime, NoRestart}
-use Rattle.deck_shape.specs.declared.keyword.Keyword.TheVariants.{OverrideArrayBounds, Finish, Lattice, RectangularPeriodic}
-use Rattle.deck_shape.specs.declared.keyword.Keyword.TheVariants.{HexagonalPeriodic, TriangularPeriodic, CellVectors, RepeatCell}
-use Rattle.deck_shape.specs.declared.keyword.Keyword.TheVariants.{NCellSites, NSiteTypes, SiteTypeNames, SiteTypes, SiteCoordinates}
-use Rattle.deck_shape.specs.declared.keyword.Keyword.TheVariants.{NeighboringStructure, EndNeighboringStructure, NSites, MaxCoord}
-use Rattle.deck_shape.specs.declared.keyword.Keyword.TheVariants.{LatticeStructure, EndLatticeStructure, EndLattice}
+use Rattle.deck_words.specs.declared.keyword.Keyword.{Keyword}
+use Rattle.deck_words.specs.declared.keyword.Keyword.TheVariants.{RandomSeed, Temperature, Pressure, NGasSpecies, GasSpecsNames}
+use Rattle.deck_words.specs.declared.keyword.Keyword.TheVariants.{GasEnergies, GasMolecWeights, GasMolarFracs, NSurfSpecies}
+use Rattle.deck_words.specs.declared.keyword.Keyword.TheVariants.{SurfSpecsNames, SurfSpecsDent, Snapshots, ProcessStatistics}
+use Rattle.deck_words.specs.declared.keyword.Keyword.TheVariants.{SpeciesNumbers, EventReport, MaxSteps, MaxTime, WallTime, NoRestart}
+use Rattle.deck_words.specs.declared.keyword.Keyword.TheVariants.{OverrideArrayBounds, Finish, Lattice, RectangularPeriodic}
+use Rattle.deck_words.specs.declared.keyword.Keyword.TheVariants.{HexagonalPeriodic, TriangularPeriodic, CellVectors, RepeatCell}
+use Rattle.deck_words.specs.declared.keyword.Keyword.TheVariants.{NCellSites, NSiteTypes, SiteTypeNames, SiteTypes, SiteCoordinates}
+use Rattle.deck_words.specs.declared.keyword.Keyword.TheVariants.{NeighboringStructure, EndNeighboringStructure, NSites, MaxCoord}
+use Rattle.deck_words.specs.declared.keyword.Keyword.TheVariants.{LatticeStructure, EndLatticeStructure, EndLattice}
 
 -- how each is spelled (Zacros manual); case counts
 abbrev pub spelling : Keyword → List ℕ

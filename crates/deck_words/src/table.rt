@@ -3,7 +3,8 @@
 //! are required, are kmc's own.
 
 ghost use Rattle.std.specs.Prelude.{◌≡◌};
-ghost use Rattle.deck_shape.specs.Tables.{rules_of};
+ghost use Rattle.std.specs.Option.{option_copied};
+ghost use Rattle.deck_words.specs.Tables.{allows, is_spelled, rule_for, rules_of};
 
 use crate::keyword::Keyword;
 
@@ -418,4 +419,32 @@ impl BlockForm {
             BlockForm::LatticeStructure => &LATTICE_STRUCTURE,
         }
     }
+    /// The rule of a word, if the block has the word.
+    pub fn rule_for(self, word: &[u8]) -> Option<&'static Rule>
+        ensures { option_copied result ≡ rule_for self word.now }
+    {
+        self.rules()
+            .iter()
+            .find(|rule| is_spelled(rule.keyword, word))
+    }
+}
+
+impl Arguments {
+    /// So many arguments are allowed.
+    pub fn allow(self, count: usize) -> bool
+        ensures { result ≡ allows self count }
+    {
+        match self {
+            Arguments::Exactly(n) => count == n,
+            Arguments::Between(least, most) => least <= count && count <= most,
+            Arguments::Any => true,
+        }
+    }
+}
+
+/// A word is spelled as a keyword.
+pub fn is_spelled(keyword: Keyword, word: &[u8]) -> bool
+    ensures { result ≡ is_spelled keyword word.now }
+{
+    keyword.spelling() == word
 }

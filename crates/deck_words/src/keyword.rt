@@ -1,5 +1,5 @@
 ghost use Rattle.std.specs.Prelude.{◌≡◌};
-ghost use Rattle.deck_shape.specs.Keywords.{spelling};
+ghost use Rattle.deck_words.specs.Keywords.{spelling};
 
 /// A keyword of the input files: a word that may stand first in a line (Zacros manual).
 #[derive(Clone, Copy, Debug, PartialEq, Eq)]

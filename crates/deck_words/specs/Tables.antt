@@ -1,16 +1,16 @@
 -- The words of the blocks, by the tables that the reader reads too.
 use Rattle.std.specs.Prelude.{ℕ, ◌==◌, ◌&&◌, Bool, true, List, Option, find, nat_le}
 use Rattle.std.specs.Cmp.Lexicographic.{pointwise}
-use Rattle.deck_shape.specs.Keywords.{spelling}
-use Rattle.deck_shape.specs.declared.keyword.Keyword.{Keyword}
-use Rattle.deck_shape.specs.declared.table.Arguments.{Arguments}
-use Rattle.deck_shape.specs.declared.table.Arguments.TheVariants.{Exactly, Between, Any}
-use Rattle.deck_shape.specs.declared.table.BlockForm.{BlockForm}
-use Rattle.deck_shape.specs.declared.table.BlockForm.TheVariants.{Simulation, LatticeFile, DefaultChoice, PeriodicCell, Explicit}
-use Rattle.deck_shape.specs.declared.table.BlockForm.TheVariants.{NeighboringStructure, LatticeStructure}
-use Rattle.deck_shape.specs.declared.table.Rule.{Rule}
-use Rattle.deck_shape.specs.declared.table.TheConstants.{SIMULATION, LATTICE_FILE, DEFAULT_CHOICE, PERIODIC_CELL, EXPLICIT}
-use Rattle.deck_shape.specs.declared.table.TheConstants.{NEIGHBORING_STRUCTURE, LATTICE_STRUCTURE}
+use Rattle.deck_words.specs.Keywords.{spelling}
+use Rattle.deck_words.specs.declared.keyword.Keyword.{Keyword}
+use Rattle.deck_words.specs.declared.table.Arguments.{Arguments}
+use Rattle.deck_words.specs.declared.table.Arguments.TheVariants.{Exactly, Between, Any}
+use Rattle.deck_words.specs.declared.table.BlockForm.{BlockForm}
+use Rattle.deck_words.specs.declared.table.BlockForm.TheVariants.{Simulation, LatticeFile, DefaultChoice, PeriodicCell, Explicit}
+use Rattle.deck_words.specs.declared.table.BlockForm.TheVariants.{NeighboringStructure, LatticeStructure}
+use Rattle.deck_words.specs.declared.table.Rule.{Rule}
+use Rattle.deck_words.specs.declared.table.TheConstants.{SIMULATION, LATTICE_FILE, DEFAULT_CHOICE, PERIODIC_CELL, EXPLICIT}
+use Rattle.deck_words.specs.declared.table.TheConstants.{NEIGHBORING_STRUCTURE, LATTICE_STRUCTURE}
 
 -- the rules of a block: its words
 abbrev pub rules_of : BlockForm → List Rule
