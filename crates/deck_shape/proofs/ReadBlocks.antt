@@ -12,6 +12,7 @@ use Rattle.deck_shape.specs.Reading.{SoFar, after_line, after_row, after_word, b
 use Rattle.deck_words.specs.Tables.{is_spelled, rule_for, rules_of}
 use Rattle.deck_shape.specs.declared.reading.Below.{Below}
 use Rattle.deck_shape.specs.declared.reading.Below.TheVariants.{Words, Rows, Enclosed}
+use Rattle.deck_words.specs.declared.fault.LineFault.{LineFault}
 use Rattle.deck_words.specs.declared.table.BlockForm.{BlockForm}
 use Rattle.deck_words.specs.declared.table.Rule.{Rule}
 use Rattle.deck_shape.proofs.PassedLines.{read_after-last}
@@ -42,9 +43,9 @@ outermost Words form is = refl
 outermost Rows form is = refl
 outermost (Enclosed rows) form is = absurd (false≢true is)
 
-abbrev outcome : SoFar → WordLine → Bool → Bool → Result BlockLines (ℕ × ℕ) → Result BlockLines (ℕ × ℕ)
+abbrev outcome : SoFar → WordLine → Bool → Bool → Result BlockLines LineFault → Result BlockLines LineFault
 outcome so_far line faulty closes rest =
-    if faulty then Err (line.number, unwrap_or (fault_at so_far line) 0)
+    if faulty then Err (record { line = line.number; kind = unwrap_or (fault_at so_far line) 0 })
     else (if closes then Ok (record so_far.block { end_line = line.number }) else rest)
 
 -- P stays while rows and words without faults are read, and gives Q at the closing word of the file
@@ -84,7 +85,7 @@ module _ (P : SoFar → Type 0) (Q : BlockLines → Type 0)
       let parts = and_parts (is_outermost so_far.below) (option_map_or (λ rule. closes rule.role) (rule_at so_far line) false) closing in
       close_by so_far line read none (outermost so_far.below so_far.block.form parts.0) (rule_at so_far line) refl parts.1
 
-  by_outcome : (so_far : SoFar) (line : WordLine) (faulty closing : Bool) (rest : Result BlockLines (ℕ × ℕ))
+  by_outcome : (so_far : SoFar) (line : WordLine) (faulty closing : Bool) (rest : Result BlockLines LineFault)
       (block : BlockLines) → is_some (fault_at so_far line) ≡ faulty → closes_file so_far line ≡ closing
       → P so_far → (fault_at so_far line ≡ None → rest ≡ Ok block → Q block) → outcome so_far line faulty closing rest ≡ Ok block → Q block
   by_outcome so_far line true closing rest block is_faulty is_closing read later is = cc

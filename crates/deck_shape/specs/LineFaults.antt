@@ -11,6 +11,7 @@ use Rattle.deck_shape.specs.Lists.{fault_if}
 use Rattle.deck_shape.specs.Numbers.{lesser}
 use Rattle.deck_shape.specs.Reading.{SoFar, argument_of, block_of, lattice_block, read_after, nothing_read, rule_at}
 use Rattle.deck_words.specs.Tables.{allows, rules_of}
+use Rattle.deck_words.specs.declared.fault.LineFault.{LineFault}
 use Rattle.deck_words.specs.declared.kind.TheConstants.{STRAY_ROW, UNKNOWN_WORD, UNSUPPORTED_WORD, ARGUMENT_COUNT, REPEATED_WORD}
 use Rattle.deck_words.specs.declared.kind.TheConstants.{MISSING_WORD, NOT_CLOSED, UNKNOWN_LATTICE}
 use Rattle.deck_shape.specs.declared.reading.Below.{Below}
@@ -137,16 +138,16 @@ line_count text = length (runs is_line_feed 0 text)
 -- A file is read line by line, with the lines above each one in view, up to the first that has a fault or that closes
 -- the file; what is below it is not read. A file that ends before is not closed, at the line after its last. The
 -- answer is the block of the file, or the line and the kind of the first fault.
-abbrev pub read_below : SoFar → List WordLine → List WordLine → ℕ → Result BlockLines (ℕ × ℕ)
-read_below first above [] count = Err (count + 1, NOT_CLOSED)
+abbrev pub read_below : SoFar → List WordLine → List WordLine → ℕ → Result BlockLines LineFault
+read_below first above [] count = Err (record { line = count + 1; kind = NOT_CLOSED })
 read_below first above (line ∷ lines) count =
     if is_some (fault_at (read_after first above) line)
-    then Err (line.number, unwrap_or (fault_at (read_after first above) line) 0)
+    then Err (record { line = line.number; kind = unwrap_or (fault_at (read_after first above) line) 0 })
     else
     (if closes_file (read_after first above) line
     then Ok (record (read_after first above).block { end_line = line.number })
     else read_below first (above ++ line ∷ []) lines count)
 
 -- the block of a text, or its first fault of form
-abbrev pub block_of_text : BlockForm → List ℕ → Result BlockLines (ℕ × ℕ)
+abbrev pub block_of_text : BlockForm → List ℕ → Result BlockLines LineFault
 block_of_text form text = read_below (nothing_read form) [] (word_lines text) (line_count text)

@@ -9,6 +9,7 @@ use Rattle.deck_shape.specs.WholeBlocks.{IsLatticeForm, IsWhole}
 use Rattle.deck_shape.specs.declared.fault.DeckFault.{DeckFault}
 use Rattle.deck_shape.specs.declared.fault.DeckFault.TheVariants.{Fault as Faulty, OutOfMemory}
 use Rattle.deck_shape.specs.declared.shape.Shape.{Shape}
+use Rattle.deck_words.specs.declared.fault.LineFault.{LineFault}
 use Rattle.deck_words.specs.declared.table.BlockForm.{BlockForm}
 
 -- the shape of a text of a file: it has one block, that of the text, which is whole; in a lattice file it is that of a
@@ -24,6 +25,6 @@ pub record IsShapeOf (file : FileId) (text : List ℕ) (shape : Shape) : Type 0 
 
 -- The fault of a file that was not read: it names the file, and the line and the kind that the definition of its
 -- reading gives. Out of memory says nothing of the file.
-abbrev pub IsFaultOf : {X : Type 0} → FileId → Result X (ℕ × ℕ) → DeckFault → Type 0
+abbrev pub IsFaultOf : {X : Type 0} → FileId → Result X LineFault → DeckFault → Type 0
 IsFaultOf file read OutOfMemory = Unit {0}
-IsFaultOf file read (Faulty fault) = (fault.file ≡ file) × (read ≡ Err (fault.line, fault.kind))
+IsFaultOf file read (Faulty fault) = (fault.file ≡ file) × (read ≡ Err (record { line = fault.line; kind = fault.kind }))

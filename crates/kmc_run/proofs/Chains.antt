@@ -8,6 +8,7 @@ use Rattle.deck_shape.specs.declared.fault.DeckFault.{DeckFault}
 use Rattle.deck_shape.specs.declared.fault.DeckFault.TheVariants.{Fault as Faulty, OutOfMemory}
 use Rattle.deck_shape.specs.declared.fault.Fault.{Fault}
 use Rattle.deck_shape.specs.declared.shape.Shape.{Shape}
+use Rattle.deck_words.specs.declared.fault.LineFault.{LineFault}
 use Rattle.deck_words.specs.declared.table.BlockForm.{BlockForm}
 use Rattle.kmc_base.specs.declared.ids.FileId.{FileId}
 use Rattle.kmc_run.specs.PlainDecks.{Ends, and_then, in_file}
@@ -24,7 +25,7 @@ pub goes_on : {X Y : Type 0} (given : Result X Fault) (x : X) (next : X → Resu
 goes_on given x next is = ap (λ r. and_then r next) is
 
 -- a reading of a file has a fault
-pub file_fails : {X : Type 0} (file : FileId) (read : Result X (ℕ × ℕ)) (fault : DeckFault) → IsFaultOf file read fault
+pub file_fails : {X : Type 0} (file : FileId) (read : Result X LineFault) (fault : DeckFault) → IsFaultOf file read fault
     → Ends fault (in_file file read)
 file_fails file read (Faulty fault) is =
     ap (in_file file) is.1

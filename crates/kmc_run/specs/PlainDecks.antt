@@ -7,6 +7,7 @@ use Rattle.deck_shape.specs.Names.{NameWord}
 use Rattle.deck_shape.specs.declared.fault.DeckFault.{DeckFault}
 use Rattle.deck_shape.specs.declared.fault.DeckFault.TheVariants.{Fault as Faulty, OutOfMemory}
 use Rattle.deck_shape.specs.declared.fault.Fault.{Fault}
+use Rattle.deck_words.specs.declared.fault.LineFault.{LineFault}
 use Rattle.deck_words.specs.declared.kind.TheConstants.{FILE_ABSENT, FILE_TOO_LONG, NOT_BUILT}
 use Rattle.deck_words.specs.declared.table.BlockForm.TheVariants.{Simulation as SimulationBlock, LatticeFile as LatticeBlock}
 use Rattle.fixed_math.specs.DecimalLogarithm.{lg_of_decimal}
@@ -61,8 +62,8 @@ both_in first first_text second second_text =
     Ok (first_bytes, second_bytes)))
 
 -- what is read of a file, or its fault, which is at a line and of a kind
-abbrev pub in_file : {X : Type 0} → FileId → Result X (ℕ × ℕ) → Result X Fault
-in_file file (Err fault) = Err (record { file = file; line = fault.0; kind = fault.1 })
+abbrev pub in_file : {X : Type 0} → FileId → Result X LineFault → Result X Fault
+in_file file (Err fault) = Err (record { file = file; line = fault.line; kind = fault.kind })
 in_file file (Ok x) = Ok x
 
 -- what is found in a file that is built
@@ -75,9 +76,9 @@ abbrev pub passes : Bool → FileId → Result (Unit {0}) Fault
 passes built file = if built then Ok tt else Err (not_built file)
 
 -- nothing, or a fault
-abbrev pub unless_fault : Option (ℕ × ℕ) → Result (Unit {0}) (ℕ × ℕ)
+abbrev pub unless_fault : Option (ℕ × ℕ) → Result (Unit {0}) LineFault
 unless_fault None = Ok tt
-unless_fault (Some fault) = Err fault
+unless_fault (Some fault) = Err (record { line = fault.0; kind = fault.1 })
 
 -- each type word of a lattice file is a type of its names
 abbrev pub types_in : LatticeValues → Result (Unit {0}) Fault

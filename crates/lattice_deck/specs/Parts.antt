@@ -7,6 +7,7 @@ use Rattle.deck_shape.specs.Blocks.{BlockLines, ItemLines, has_keyword}
 use Rattle.deck_shape.specs.WordLines.{list_in, names_in, words_behind}
 use Rattle.deck_shape.specs.LineWords.{first_of, after_first}
 use Rattle.deck_shape.specs.Names.{NameWord, name_at, on_line}
+use Rattle.deck_words.specs.declared.fault.LineFault.{LineFault}
 use Rattle.deck_words.specs.declared.keyword.Keyword.{Keyword}
 use Rattle.deck_words.specs.declared.keyword.Keyword.TheVariants.{HexagonalPeriodic, LatticeStructure, NeighboringStructure}
 use Rattle.deck_words.specs.declared.keyword.Keyword.TheVariants.{RectangularPeriodic, SiteTypeNames, SiteTypes}
@@ -102,10 +103,10 @@ values_of NeighboringRows items = default_values items
 values_of LatticeRows items = default_values items
 
 -- the values, unless there is a fault
-abbrev pub values_unless : LatticeValues → Option (ℕ × ℕ) → Result LatticeValues (ℕ × ℕ)
+abbrev pub values_unless : LatticeValues → Option (ℕ × ℕ) → Result LatticeValues LineFault
 values_unless values None = Ok values
-values_unless values (Some fault) = Err fault
+values_unless values (Some fault) = Err (record { line = fault.0; kind = fault.1 })
 
 -- the values of the block of a lattice file, or its first fault
-abbrev pub part_of : BlockLines → Result LatticeValues (ℕ × ℕ)
+abbrev pub part_of : BlockLines → Result LatticeValues LineFault
 part_of block = values_unless (values_of block.form block.items) (first_fault block)

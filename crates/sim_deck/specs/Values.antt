@@ -6,6 +6,7 @@ use Rattle.dec_text.specs.Wholes.{whole_number}
 use Rattle.deck_shape.specs.Blocks.{BlockLines, ItemLines}
 use Rattle.deck_shape.specs.WordLines.{list_in, names_in, words_behind}
 use Rattle.deck_shape.specs.Names.{NameWord, name_at}
+use Rattle.deck_words.specs.declared.fault.LineFault.{LineFault}
 use Rattle.deck_words.specs.declared.keyword.Keyword.{Keyword}
 use Rattle.deck_words.specs.declared.keyword.Keyword.TheVariants.{RandomSeed, Temperature, Pressure, GasSpecsNames, GasEnergies}
 use Rattle.deck_words.specs.declared.keyword.Keyword.TheVariants.{GasMolarFracs, SurfSpecsNames, SurfSpecsDent, Snapshots}
@@ -114,10 +115,10 @@ values_of items = record {
 }
 
 -- the values, unless there is a fault
-abbrev pub values_unless : SimValues → Option (ℕ × ℕ) → Result SimValues (ℕ × ℕ)
+abbrev pub values_unless : SimValues → Option (ℕ × ℕ) → Result SimValues LineFault
 values_unless values None = Ok values
-values_unless values (Some fault) = Err fault
+values_unless values (Some fault) = Err (record { line = fault.0; kind = fault.1 })
 
 -- the values of the block of a simulation file, or its first fault
-abbrev pub part_of : BlockLines → Result SimValues (ℕ × ℕ)
+abbrev pub part_of : BlockLines → Result SimValues LineFault
 part_of block = values_unless (values_of block.items) (first_fault block)
