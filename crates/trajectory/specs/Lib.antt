@@ -1,0 +1,2 @@
+pub mod ByCode
+pub mod Trajectory
