@@ -61,9 +61,10 @@ module _ {S K : Type 0} where
     pub puts : seat.me.0.puts ≡ 0
     pub joined : seat.me.0.joined ≡ []
 
-  -- the piece joins the claims, and no other does. It was not among them
+  -- the piece joins the claims, and no other does. It was not among them, nor found claimed
   pub record Claims (old new : Seat S (View K)) (piece : ℕ) : Type 0 where
     pub fresh : bit_at old.me.0.claims piece ≡ 0
+    pub unfound : bit_at old.me.0.seen piece ≡ 0
     pub added : new.me.0.claims ≡ bit_or old.me.0.claims (2 ^ piece)
     pub has : bit_at new.me.0.claims piece ≡ 1
 

@@ -2,7 +2,7 @@ use Rattle.std.proofs.Common.{ap, sym, ◌∙◌, rules, arith, bit_and, bit_or}
 use Rattle.std.proofs.lemmas.Nat.{or_lt}
 use mathlib.Core.Option.{none}
 use Rattle.atomic_table.specs.Table.{step}
-use Rattle.board_turn.proofs.Bits.{set_at, narrowed}
+use Rattle.board_turn.proofs.Bits.{set_at, unset_at, narrowed}
 use Rattle.board_turn.proofs.Steps.{claims_one}
 use Rattle.board_turn.proofs.Seats.{missed, won, tries}
 use Rattle.board_turn.proofs.board.Board.try_claim.Goals as goal
@@ -56,7 +56,10 @@ pub returns-clause-won : goal.returns-clause-won
 returns-clause-won g c = λ _.
     let e = c.fetch_or-found.ensures.2.won c.if-found-bit-ne0.false in
     let t = won c.args.pass.now.seat.me c.fetch_or-found.new.seat.me _ _ c.args.piece c.piece_bit-bit.ensures.is e.0 e.1 in
-    record { fresh = t.fresh; added = t.added; has = t.has }
+    let pass = c.args.pass.now in
+    let unset = unset_at pass.seat.me.0.seen c.piece_bit-bit.result c.args.piece c.piece_bit-bit.ensures.is
+        (ap (λ n. bit_and n c.piece_bit-bit.result) (sym pass.has_found) ∙ c.if-pass-bit-ne0.false) in
+    record { fresh = t.fresh; unfound = unset; added = t.added; has = t.has }
 
 pub returns-clause-found : goal.returns-clause-found
 returns-clause-found g c =
