@@ -1,0 +1,4 @@
+pub mod Entities
+pub mod Firing
+pub mod Sides
+pub mod Soundness
