@@ -1,6 +1,8 @@
 ghost use Rattle.std.specs.Prelude.{◌≡◌, ◌^◌, ◌<◌, ◌≤◌, ℕ, Contains, IfOk, IfSome, IsTrue, length, [], ◌∷◌, slice_index, vec_len};
 ghost use Rattle.std.specs.List.{All, AllByRecursion};
-ghost use Rattle.kmc_core.specs.Deck.{IsSound, IsSoundProcess, IsSoundSide, IsWholeWant};
+ghost use Rattle.firing.specs.Entities.{is_of, size_of};
+ghost use Rattle.firing.specs.Soundness.{HasDentates, HasItsDentates, IsSoundSide, IsWholeWant};
+ghost use Rattle.kmc_core.specs.Deck.{IsSound, IsSoundProcess};
 ghost use Rattle.lattice_core.specs.Lattice.{IsLattice};
 ghost use Rattle.pattern_types.specs.Edges.{edge_set, are_adjacent};
 ghost use Rattle.sim_deck.specs.Soundness.{IsPeriod, IsSoundPlan};
@@ -112,9 +114,33 @@ fn wants_each(wanted: &[Wanted], entity: u8, species: SpeciesId, dentates: u8) -
     true
 }
 
+/// Whether a vertex names an entity.
+fn is_of(vertex: Wanted, entity: u8) -> bool
+    ensures { result ≡ is_of entity vertex }
+{
+    match vertex {
+        Wanted::Holds { entity: e, .. } => e == entity,
+        Wanted::Any | Wanted::Vacant => false,
+    }
+}
+
+/// How many vertices name an entity.
+fn size_of(wanted: &[Wanted], entity: u8) -> usize
+    ensures { result ≡ size_of entity wanted.now }
+{
+    let mut size = 0;
+    for vertex in wanted {
+        if is_of(*vertex, entity) {
+            size += 1;
+        }
+    }
+    size
+}
+
 /// Whether a vertex wants a vacant site, or a dentate of a whole entity, by the dentates of each species.
 fn is_whole_at(wanted: &[Wanted], dentates: &[u8], vertex: Wanted) -> bool
-    ensures { IsTrue result → IsWholeWant (λ s. slice_index dentates.now s) wanted.now vertex }
+    ensures whole { IsTrue result → IsWholeWant wanted.now vertex }
+    ensures dentates { IsTrue result → HasItsDentates (λ s. slice_index dentates.now s) wanted.now vertex }
 {
     match vertex {
         Wanted::Any => false,
@@ -128,16 +154,19 @@ fn is_whole_at(wanted: &[Wanted], dentates: &[u8], vertex: Wanted) -> bool
             if place >= dentates.len() {
                 return false;
             }
-            1 <= dentate
-                && dentate <= dentates[place]
-                && wants_each(wanted, entity, species, dentates[place])
+            let size = dentates[place];
+            size_of(wanted, entity) == usize::from(size)
+                && 1 <= dentate
+                && dentate <= size
+                && wants_each(wanted, entity, species, size)
         }
     }
 }
 
 /// Whether the entities of a side are whole.
 fn is_whole(wanted: &[Wanted], dentates: &[u8]) -> bool
-    ensures { IsTrue result → All (IsWholeWant (λ s. slice_index dentates.now s) wanted.now) wanted.now }
+    ensures whole { IsTrue result → All (IsWholeWant wanted.now) wanted.now }
+    ensures dentates { IsTrue result → All (HasItsDentates (λ s. slice_index dentates.now s) wanted.now) wanted.now }
 {
     for vertex in wanted {
         if !is_whole_at(wanted, dentates, *vertex) {
@@ -156,7 +185,8 @@ fn side(
 ) -> Result<Pattern, Fail>
     ensures edges { IfOk result (λ side. side.edges ≡ edge_set (are_adjacent edges.now)) }
     ensures types { IfOk result (λ side. side.types ≡ types.now) }
-    ensures sound { IfOk result (λ side. IsSoundSide (λ s. slice_index dentates.now s) side) }
+    ensures sound { IfOk result IsSoundSide }
+    ensures dentates { IfOk result (HasDentates (λ s. slice_index dentates.now s)) }
 {
     if types.len() != wanted.len() || !is_whole(wanted, dentates) {
         return Err("no side of a step")?;

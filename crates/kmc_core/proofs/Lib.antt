@@ -2,12 +2,9 @@ pub mod AdsorbateCounts
 pub mod AllLemmas
 pub mod AnchorInstances
 pub mod CodeOrder
-pub mod FiringEachEntity
-pub mod FiringEntities
-pub mod FiringSites
-pub mod FiringStates
 pub mod FirstFirings
 pub mod Instances
+pub mod MatchedStates
 pub mod MergedEntries
 pub mod OfferedInstances
 pub mod OfferedPlacements

@@ -5,11 +5,11 @@ use Rattle.std.proofs.lemmas.List.{get_or_default}
 use Rattle.std.proofs.lemmas.Option.{slice_get_within}
 use Rattle.std.specs.List.{All, AllPairs, Contains}
 use Rattle.std.specs.Prelude.{slice_get}
+use Rattle.firing.specs.Sides.{states_for, with_states}
 use Rattle.kmc_core.proofs.Instances.{offers-well}
 use Rattle.kmc_core.proofs.OfferedInstances.{IsOffered, codes_offered}
 use Rattle.kmc_core.specs.Deck.{IsSound, IsSoundProcess, dentates_in}
 use Rattle.kmc_core.specs.PlainSystem.{process_of, system_of}
-use Rattle.kmc_core.specs.Sides.{states_for, with_states}
 use Rattle.kmc_core.specs.declared.deck.PlainDeck.{PlainDeck}
 use Rattle.kmc_core.specs.declared.deck.PlainProcess.{PlainProcess}
 use Rattle.lattice_core.specs.Config.{state_at}

@@ -1,11 +1,13 @@
 -- What holds of a run of a sound deck at each event that its trajectory comes to.
 use Rattle.std.proofs.Common.{◌≡◌, ℕ, zero, suc, ◌≤◌, List, [], ◌∷◌, Option, None, Some, length}
 use Rattle.std.proofs.Common.{refl, sym, ap, subst, ◌∙◌, arith}
-use Rattle.std.proofs.lemmas.List.{length-replicate, length-set}
+use Rattle.std.proofs.lemmas.List.{length-replicate}
 use Rattle.std.proofs.lemmas.List.Elements.{All-contains_itself, recursion_from_All}
 use Rattle.std.specs.List.{AllByRecursion, Contains}
 use Rattle.std.specs.Option.{option_map}
-use Rattle.std.specs.Prelude.{option_and_then, IfSome, IsSomeAnd, ◌-◌, slice_get, slice_set}
+use Rattle.std.specs.Prelude.{option_and_then, IfSome, IsSomeAnd, ◌-◌, slice_get}
+use Rattle.firing.specs.Sides.{states_for}
+use Rattle.firing.proofs.Placed.{with-length}
 use Rattle.kmc_base.specs.Entries.{IsRising, codes_of, least}
 use Rattle.kmc_base.specs.declared.entry.Entry.{Entry}
 use Rattle.kmc_base.specs.declared.entry.Firing.{Firing}
@@ -16,7 +18,6 @@ use Rattle.kmc_core.proofs.RenewedEntries.{IsFiringOf, IsInTime, ap2, codes-rene
 use Rattle.kmc_core.specs.Deck.{IsSound}
 use Rattle.kmc_core.specs.PlainSystem.{fired_by, fired_on, opening, process_of, sites_of, system_of, trajectory_of}
 use Rattle.kmc_core.specs.Run.{ClosedRun, IsClosedAt, IsOpenAt}
-use Rattle.kmc_core.specs.Sides.{states_for, with_states}
 use Rattle.kmc_core.specs.Trajectory.{Snapshot, System, fired, next, renewed, start, trajectory}
 use Rattle.kmc_core.specs.declared.deck.PlainDeck.{PlainDeck}
 use Rattle.kmc_core.specs.declared.deck.PlainProcess.{PlainProcess}
@@ -87,16 +88,10 @@ first-well deck s first well is =
       offered = subst (λ (cs : List ℕ). Contains cs first.code) well.codes (subst (λ (n : ℕ). Contains codes n) one.3 one.1.0);
     }
 
--- states that are put on sites are put on sites that are there
-pub with_states-length : (given : List (ℕ × State)) (states : List State) → length (with_states given states) ≡ length states
-unfolding with_states
-with_states-length [] states = refl
-with_states-length (g ∷ given) states = with_states-length given (slice_set states g.0 g.1) ∙ length-set states g.0 g.1
-
 -- the state after an event has as many sites
 fired_on-length : (states : List State) (process : PlainProcess) (sites : Option (List ℕ)) → length (fired_on states process sites) ≡ length states
 fired_on-length states process None = refl
-fired_on-length states process (Some sites) = with_states-length (states_for process.after sites) states
+fired_on-length states process (Some sites) = with-length (states_for process.after sites) states
 
 fired_by-length : (lattice : Lattice) (states : List State) (code : ℕ) (process : Option PlainProcess)
     → length (fired_by lattice states code process) ≡ length states

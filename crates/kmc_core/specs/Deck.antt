@@ -1,16 +1,13 @@
 -- A plain deck: processes that each have a pre-exponential factor and an activation energy, of adsorbates that do not
 -- interact. No process consumes or produces gas.
-use Rattle.std.specs.Prelude.{◌≡◌, ℕ, ◌≤◌, List, length, slice_index_or, unsigned_abs}
-use Rattle.std.specs.List.{All, AllByRecursion, Contains}
+use Rattle.std.specs.Prelude.{◌≡◌, ℕ, ◌≤◌, length, slice_index_or, unsigned_abs}
+use Rattle.std.specs.List.{All, AllByRecursion}
+use Rattle.firing.specs.Soundness.{HasDentates, IsSoundSide}
 use Rattle.kmc_base.specs.declared.limits.TheConstants.{MAX_DENTATES, MAX_ENERGY}
 use Rattle.kmc_core.specs.declared.deck.PlainDeck.{PlainDeck}
 use Rattle.kmc_core.specs.declared.deck.PlainProcess.{PlainProcess}
 use Rattle.lattice_core.specs.Lattice.{IsLattice}
 use Rattle.pattern_list.specs.declared.code.TheConstants.{MAX_PROCESSES}
-use Rattle.pattern_types.specs.Parts.{PatternParts}
-use Rattle.pattern_types.specs.Soundness.{IsSound as IsPattern}
-use Rattle.pattern_types.specs.declared.wanted.Wanted.{Wanted}
-use Rattle.pattern_types.specs.declared.wanted.Wanted.TheVariants.{Any, Vacant, Holds}
 use Rattle.sim_deck.specs.Soundness.{IsSoundPlan}
 use Rattle.species_book.specs.Book.{Book}
 
@@ -18,23 +15,13 @@ use Rattle.species_book.specs.Book.{Book}
 abbrev pub dentates_in : Book → ℕ → ℕ
 dentates_in book species = slice_index_or book.dentates species 0
 
--- a vertex of a side of a step wants a vacant site, or a dentate of an entity of which some vertex wants each dentate
-abbrev pub IsWholeWant : (ℕ → ℕ) → List Wanted → Wanted → Type 0
-IsWholeWant dentates wanted Any = ⊥
-IsWholeWant dentates wanted Vacant = Unit {0}
-IsWholeWant dentates wanted (Holds entity species dentate) =
-    (1 ≤ dentate) × (dentate ≤ dentates species.0) × ((d : ℕ) → 1 ≤ d → d ≤ dentates species.0 → Contains wanted (Holds entity species d))
-
--- one side of a step, before or after it: a pattern whose entities are whole adsorbates of the deck's species
-pub record IsSoundSide (dentates : ℕ → ℕ) (side : PatternParts) : Type 0 where
-  pub pattern : IsPattern side
-  pub whole : All (IsWholeWant dentates side.wanted) side.wanted
-
--- both sides are of the same vertices, edges and types, and the activation energy, of either sign, is within the
--- limit on energies
+-- Both sides are sound, of entities that have as many dentates as their species, and of the same vertices, edges and types.
+-- The activation energy, of either sign, is within the limit on energies.
 pub record IsSoundProcess (dentates : ℕ → ℕ) (process : PlainProcess) : Type 0 where
-  pub before : IsSoundSide dentates process.before
-  pub after : IsSoundSide dentates process.after
+  pub before : IsSoundSide process.before
+  pub after : IsSoundSide process.after
+  pub dentates_before : HasDentates dentates process.before
+  pub dentates_after : HasDentates dentates process.after
   pub edges : process.after.edges ≡ process.before.edges
   pub types : process.after.types ≡ process.before.types
   pub activation : unsigned_abs process.activation ≤ unsigned_abs MAX_ENERGY

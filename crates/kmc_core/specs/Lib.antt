@@ -1,5 +1,4 @@
 pub mod Deck
-pub mod Entities
 pub mod Firing
 pub mod InstanceRange
 pub mod Instances
@@ -7,6 +6,5 @@ pub mod ListedProcess
 pub mod PlainSystem
 pub mod Rate
 pub mod Run
-pub mod Sides
 pub mod Stops
 pub mod Trajectory

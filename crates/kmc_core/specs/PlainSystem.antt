@@ -1,8 +1,8 @@
 -- The system of events of a plain deck: its instances on the whole lattice, and what the lattice is after one has fired.
 use Rattle.std.specs.Prelude.{ℕ, ◌/◌, ◌^◌, ◌==◌, ◌&&◌, Bool, false, List, Option, None, Some, find, replicate, slice_get}
+use Rattle.firing.specs.Sides.{states_for, with_states}
 use Rattle.kmc_base.specs.declared.ids.SpeciesId.{SpeciesId}
 use Rattle.kmc_core.specs.Instances.{by_code, instances_from}
-use Rattle.kmc_core.specs.Sides.{states_for, with_states}
 use Rattle.kmc_core.specs.Trajectory.{System, Snapshot, trajectory}
 use Rattle.kmc_core.specs.declared.deck.PlainDeck.{PlainDeck}
 use Rattle.kmc_core.specs.declared.deck.PlainProcess.{PlainProcess}

@@ -9,8 +9,9 @@
 //!
 //! The crate builds on `kmc_base` for entries and the rule by which they keep their times, on
 //! `lattice_core` for the lattice and its configuration, on `pattern_types` and `pattern_list` for
-//! patterns and their instances, on `sim_deck` for the plan of a run, on `species_book` for its
-//! species, on `fixed_math` for waiting times and on `named_draws` for random numbers.
+//! patterns and their instances, on `firing` for what an instance makes of the configuration, on
+//! `sim_deck` for the plan of a run, on `species_book` for its species, on `fixed_math` for waiting
+//! times and on `named_draws` for random numbers.
 #![tactic(auto)]
 
 mod closed;
@@ -18,7 +19,6 @@ mod deck;
 mod entries;
 mod entry_lists;
 mod fired;
-mod firing;
 mod instance;
 mod listing;
 mod renewal;

@@ -8,8 +8,8 @@ ghost use Rattle.lattice_core.specs.Lattice.{site_count};
 use crate::closed::Closed;
 use crate::deck::PlainDeck;
 use crate::entry_lists::EntryLists;
-use crate::firing::fire;
 use crate::listing::process_of;
+use firing::fire;
 use kmc_base::{Firing, OutOfMemory};
 use lattice_core::Config;
 use pattern_list::decode;
@@ -61,7 +61,7 @@ fn fire_code(config: &mut Config, deck: &PlainDeck, code: u128)
 {
     let process = process_of(deck, code);
     let placement = decode(&deck.graph, &process.before, code);
-    fire(config, &deck.book, process, placement.sites());
+    fire(config, &process.before, &process.after, placement.sites());
 }
 
 impl Unclosed {

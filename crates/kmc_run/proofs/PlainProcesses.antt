@@ -1,7 +1,8 @@
 -- The processes of the plain form are sound.
 use Rattle.std.proofs.Common.{◌≡◌, zero, suc, ◌≤◌, List, [], ◌∷◌, Option, None, Some, length, map, refl, sym, ap, subst, arith}
 use Rattle.std.specs.List.{All, AllByRecursion}
-use Rattle.kmc_core.specs.Deck.{IsSoundProcess, IsSoundSide, IsWholeWant, dentates_in}
+use Rattle.firing.specs.Soundness.{HasDentates as HasSideDentates, HasItsDentates, IsSoundSide, IsWholeWant}
+use Rattle.kmc_core.specs.Deck.{IsSoundProcess, dentates_in}
 use Rattle.kmc_base.specs.declared.ids.SpeciesId.{SpeciesId}
 use Rattle.kmc_base.specs.declared.limits.TheConstants.{MAX_DENTATES}
 use Rattle.pattern_types.specs.Edges.{edge_set, are_adjacent}
@@ -46,26 +47,37 @@ pub record HasDentates (book : Book) : Type 0 where
   pub range : All (λ d. (1 ≤ d) × (d ≤ MAX_DENTATES)) book.dentates
   pub one_each : length book.dentates ≡ length book.surface
 
-whole_want : (book : Book) → HasDentates book → (state : Option SpeciesId) → IsPlainState book state
-    → IsWholeWant (dentates_in book) (wanted_of state ∷ []) (wanted_of state)
-whole_want book has None plain = tt
-whole_want book has (Some species) plain =
-    let known = plain species refl in
-    let range = has.range species.0 0 (omega (arith, known.0, has.one_each)) in (
-      omega arith,
-      range.0,
-      λ d lo hi. (0, omega arith, ap (Holds 1 species) (let one : 1 ≡ d = omega (arith, known.1) in one)),
-    )
+whole_want : (state : Option SpeciesId) → IsWholeWant (wanted_of state ∷ []) (wanted_of state)
+whole_want None = tt
+whole_want (Some species) = (
+  omega arith,
+  omega arith,
+  λ d lo hi. (0, omega arith, ap (Holds 1 species) (let one : 1 ≡ d = omega arith in one)),
+)
 
 -- a side of a plain step is sound
-sound_side : (book : Book) → HasDentates book → (state : Option SpeciesId) → IsPlainState book state → IsSoundSide (dentates_in book) (side_of state)
-sound_side book has state plain =
-    subst (IsSoundSide (dentates_in book)) (sym (is_one_vertex state))
+sound_side : (state : Option SpeciesId) → IsSoundSide (side_of state)
+sound_side state =
+    subst IsSoundSide (sym (is_one_vertex state))
     (record {
       pattern = is_pattern (wanted_of state);
-      whole = all_one (IsWholeWant (dentates_in book) (wanted_of state ∷ [])) (wanted_of state)
-          (whole_want book has state plain);
+      whole = all_one (IsWholeWant (wanted_of state ∷ [])) (wanted_of state) (whole_want state);
     })
+
+-- and its species has one dentate
+its_dentates : (book : Book) → HasDentates book → (state : Option SpeciesId) → IsPlainState book state
+    → HasItsDentates (dentates_in book) (wanted_of state ∷ []) (wanted_of state)
+its_dentates book has None plain = tt
+its_dentates book has (Some species) plain =
+    let known = plain species refl in
+    let range = has.range species.0 0 (omega (arith, known.0, has.one_each)) in
+    omega (arith, known.1, range.0)
+
+side_dentates : (book : Book) → HasDentates book → (state : Option SpeciesId) → IsPlainState book state
+    → HasSideDentates (dentates_in book) (side_of state)
+side_dentates book has state plain =
+    subst (HasSideDentates (dentates_in book)) (sym (is_one_vertex state))
+    (all_one (HasItsDentates (dentates_in book) (wanted_of state ∷ [])) (wanted_of state) (its_dentates book has state plain))
 
 -- the processes of plain steps are sound
 pub sound_steps : (book : Book) → HasDentates book → (steps : List Step) → AllByRecursion (IsPlainStep book) steps
@@ -73,8 +85,10 @@ pub sound_steps : (book : Book) → HasDentates book → (steps : List Step) →
 sound_steps book has [] all = tt
 sound_steps book has (step ∷ steps) all = (
   record {
-    before = sound_side book has step.before all.0.before;
-    after = sound_side book has step.after all.0.after;
+    before = sound_side step.before;
+    after = sound_side step.after;
+    dentates_before = side_dentates book has step.before all.0.before;
+    dentates_after = side_dentates book has step.after all.0.after;
     edges = refl;
     types = refl;
     activation = omega (arith, all.0.activation);
