@@ -13,8 +13,8 @@ use Rattle.kmc_base.proofs.EntryLists.{below-all}
 use Rattle.kmc_base.specs.Entries.{IsRising}
 use Rattle.pattern_list.proofs.Members.{in-none, in-first, in-rest, in-cases}
 use Rattle.kmc_core.proofs.AllLemmas.{all-map, all-from_map, all-weaker}
-use Rattle.kmc_core.specs.Instances.{inserted, by_code}
-use Rattle.kmc_core.specs.declared.instance.Instance.{Instance}
+use Rattle.trajectory.specs.ByCode.{inserted, by_code}
+use Rattle.trajectory.specs.declared.instance.Instance.{Instance}
 
 -- the codes of instances
 abbrev pub codes : List Instance → List ℕ

@@ -6,10 +6,10 @@ use Rattle.kmc_base.proofs.EntryLists.{entry_at-behind}
 use Rattle.kmc_base.specs.Entries.{IsRising, codes_of, entry_at, chosen, kept_or}
 use Rattle.kmc_base.specs.declared.entry.Entry.{Entry}
 use Rattle.kmc_core.proofs.CodeOrder.{all-by_code, by_code-append}
-use Rattle.kmc_core.specs.Instances.{by_code}
-use Rattle.kmc_core.specs.Trajectory.{fresh, renewed}
+use Rattle.trajectory.specs.ByCode.{by_code}
+use Rattle.trajectory.specs.Trajectory.{fresh, renewed}
 use Rattle.kmc_core.specs.declared.renewal.Renewal.{Renewal}
-use Rattle.kmc_core.specs.declared.instance.Instance.{Instance}
+use Rattle.trajectory.specs.declared.instance.Instance.{Instance}
 
 -- a code that is not the first of rising entries, and not above it, has no entry
 pub no_entry : (code : ℕ) (d : Entry) (es : List Entry) → IsRising (codes_of es)

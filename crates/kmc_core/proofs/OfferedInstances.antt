@@ -8,7 +8,7 @@ use Rattle.kmc_core.specs.InstanceRange.{IsInRange}
 use Rattle.kmc_core.specs.PlainSystem.{process_of, sites_of, system_of}
 use Rattle.kmc_core.specs.declared.deck.PlainDeck.{PlainDeck}
 use Rattle.kmc_core.specs.declared.deck.PlainProcess.{PlainProcess}
-use Rattle.kmc_core.specs.declared.instance.Instance.{Instance}
+use Rattle.trajectory.specs.declared.instance.Instance.{Instance}
 use Rattle.lattice_core.specs.Config.{state_at}
 use Rattle.lattice_core.specs.declared.state.State.{State}
 use Rattle.pattern_list.specs.Code.{IsCode}

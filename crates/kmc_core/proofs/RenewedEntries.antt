@@ -12,8 +12,8 @@ use Rattle.kmc_base.specs.declared.entry.Firing.{Firing}
 use Rattle.kmc_base.specs.declared.limits.TheConstants.{END_OF_TIME}
 use Rattle.kmc_base.specs.declared.firing_time.When.{When}
 use Rattle.kmc_base.specs.declared.firing_time.When.TheVariants.{At, Never}
-use Rattle.kmc_core.specs.Trajectory.{fresh, renewed}
-use Rattle.kmc_core.specs.declared.instance.Instance.{Instance}
+use Rattle.trajectory.specs.Trajectory.{fresh, renewed}
+use Rattle.trajectory.specs.declared.instance.Instance.{Instance}
 use Rattle.named_draws.specs.Draw.{draw}
 
 -- a time that is not past the end of time, if there is one

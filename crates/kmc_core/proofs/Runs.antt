@@ -18,7 +18,7 @@ use Rattle.kmc_core.proofs.RenewedEntries.{IsFiringOf, IsInTime, ap2, codes-rene
 use Rattle.kmc_core.specs.Deck.{IsSound}
 use Rattle.kmc_core.specs.PlainSystem.{fired_by, fired_on, opening, process_of, sites_of, system_of, trajectory_of}
 use Rattle.kmc_core.specs.Run.{ClosedRun, IsClosedAt, IsOpenAt}
-use Rattle.kmc_core.specs.Trajectory.{Snapshot, System, fired, next, renewed, start, trajectory}
+use Rattle.trajectory.specs.Trajectory.{Snapshot, System, fired, next, renewed, start, trajectory}
 use Rattle.kmc_core.specs.declared.deck.PlainDeck.{PlainDeck}
 use Rattle.kmc_core.specs.declared.deck.PlainProcess.{PlainProcess}
 use Rattle.lattice_core.specs.Lattice.{Lattice, site_count}

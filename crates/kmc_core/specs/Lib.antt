@@ -7,4 +7,3 @@ pub mod PlainSystem
 pub mod Rate
 pub mod Run
 pub mod Stops
-pub mod Trajectory

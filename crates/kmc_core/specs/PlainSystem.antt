@@ -2,8 +2,9 @@
 use Rattle.std.specs.Prelude.{ℕ, ◌/◌, ◌^◌, ◌==◌, ◌&&◌, Bool, false, List, Option, None, Some, find, replicate, slice_get}
 use Rattle.firing.specs.Sides.{states_for, with_states}
 use Rattle.kmc_base.specs.declared.ids.SpeciesId.{SpeciesId}
-use Rattle.kmc_core.specs.Instances.{by_code, instances_from}
-use Rattle.kmc_core.specs.Trajectory.{System, Snapshot, trajectory}
+use Rattle.trajectory.specs.ByCode.{by_code}
+use Rattle.kmc_core.specs.Instances.{instances_from}
+use Rattle.trajectory.specs.Trajectory.{System, Snapshot, trajectory}
 use Rattle.kmc_core.specs.declared.deck.PlainDeck.{PlainDeck}
 use Rattle.kmc_core.specs.declared.deck.PlainProcess.{PlainProcess}
 use Rattle.lattice_core.specs.Config.{state_at}

@@ -6,7 +6,7 @@ use Rattle.kmc_base.specs.declared.entry.Firing.{Firing}
 use Rattle.kmc_core.specs.Deck.{IsSound, dentates_in}
 use Rattle.kmc_core.specs.PlainSystem.{system_of, trajectory_of}
 use Rattle.kmc_core.specs.Stops.{stop_at}
-use Rattle.kmc_core.specs.Trajectory.{Snapshot, renewed}
+use Rattle.trajectory.specs.Trajectory.{Snapshot, renewed}
 use Rattle.kmc_core.specs.declared.deck.PlainDeck.{PlainDeck}
 use Rattle.kmc_core.specs.declared.stop.Stop.{Stop}
 use Rattle.lattice_core.specs.Config.{IsWellFormed}

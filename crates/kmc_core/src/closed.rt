@@ -5,7 +5,7 @@ ghost use Rattle.kmc_base.specs.declared.limits.TheConstants.{END_OF_TIME, MAX_D
 ghost use Rattle.kmc_core.specs.Deck.{IsSound, dentates_in};
 ghost use Rattle.kmc_core.specs.PlainSystem.{is_home_of, opening as opening_of, system_of, trajectory_of};
 ghost use Rattle.kmc_core.specs.Run.{stop_of};
-ghost use Rattle.kmc_core.specs.Trajectory.{start};
+ghost use Rattle.trajectory.specs.Trajectory.{start};
 ghost use Rattle.lattice_core.specs.Config.{IsWellFormed};
 
 use crate::deck::PlainDeck;

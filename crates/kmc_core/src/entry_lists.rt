@@ -3,7 +3,7 @@ ghost use Rattle.kmc_base.specs.Entries.{IsRising, codes_of};
 ghost use Rattle.kmc_base.specs.declared.limits.TheConstants.{END_OF_TIME};
 ghost use Rattle.kmc_core.specs.Deck.{IsSound};
 ghost use Rattle.kmc_core.specs.PlainSystem.{system_of};
-ghost use Rattle.kmc_core.specs.Trajectory.{renewed};
+ghost use Rattle.trajectory.specs.Trajectory.{renewed};
 ghost use Rattle.lattice_core.specs.Lattice.{site_count};
 
 use crate::deck::PlainDeck;

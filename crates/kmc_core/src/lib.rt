@@ -19,7 +19,6 @@ mod deck;
 mod entries;
 mod entry_lists;
 mod fired;
-mod instance;
 mod listing;
 mod renewal;
 mod stop;

@@ -5,7 +5,7 @@ use Rattle.std.specs.List.{range_with_len}
 use Rattle.std.specs.Prelude.{count_by, IfSome, IsSomeAnd}
 use Rattle.species_book.specs.Book.{species}
 use Rattle.kmc_core.specs.PlainSystem.{is_home_of}
-use Rattle.kmc_core.specs.Trajectory.{Snapshot}
+use Rattle.trajectory.specs.Trajectory.{Snapshot}
 use Rattle.kmc_core.specs.declared.deck.PlainDeck.{PlainDeck}
 use Rattle.lattice_core.specs.declared.state.State.{State}
 use Rattle.kmc_run.specs.Samples.{adsorbates}

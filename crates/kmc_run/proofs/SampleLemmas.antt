@@ -5,7 +5,7 @@ use Rattle.std.specs.Option.{IsSomeAnd, option_map_or}
 use Rattle.std.specs.Prelude.{IfSome, replicate}
 use Rattle.kmc_base.specs.declared.ids.OutId.TheVariants.{Specnum}
 use Rattle.kmc_core.specs.PlainSystem.{trajectory_of}
-use Rattle.kmc_core.specs.Trajectory.{Snapshot}
+use Rattle.trajectory.specs.Trajectory.{Snapshot}
 use Rattle.kmc_core.specs.declared.deck.PlainDeck.{PlainDeck}
 use Rattle.lattice_core.specs.declared.state.State.{State}
 use Rattle.kmc_run.specs.Samples.{adsorbates, event_period, sample_at, sample_line, writes_at, writes_before}

@@ -6,7 +6,7 @@ use Rattle.std.specs.Option.{option_map_or}
 use Rattle.kmc_base.specs.declared.ids.OutId.TheVariants.{Specnum}
 use Rattle.kmc_core.specs.PlainSystem.{is_home_of, trajectory_of}
 use Rattle.kmc_core.specs.Run.{stop_of}
-use Rattle.kmc_core.specs.Trajectory.{Snapshot}
+use Rattle.trajectory.specs.Trajectory.{Snapshot}
 use Rattle.kmc_core.specs.declared.deck.PlainDeck.{PlainDeck}
 use Rattle.lattice_core.specs.declared.state.State.{State}
 use Rattle.sim_deck.specs.declared.part.Plan.{Plan}

@@ -5,9 +5,9 @@ use Rattle.std.specs.List.{AllByRecursion}
 use Rattle.std.specs.Option.{option_copied}
 use Rattle.kmc_base.specs.Entries.{IsRising, entry_at, kept_or}
 use Rattle.kmc_core.specs.InstanceRange.{IsInRange}
-use Rattle.kmc_core.specs.Trajectory.{fresh, renewed}
+use Rattle.trajectory.specs.Trajectory.{fresh, renewed}
 use Rattle.kmc_core.specs.declared.renewal.Renewal.{Renewal}
-use Rattle.kmc_core.specs.declared.instance.Instance.{Instance}
+use Rattle.trajectory.specs.declared.instance.Instance.{Instance}
 use Rattle.kmc_core.proofs.MergedEntries.{found_later, renewed_more}
 use Rattle.kmc_core.proofs.renewal.Renewal.merge.Goals as goal
 

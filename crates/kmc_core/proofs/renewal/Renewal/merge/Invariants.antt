@@ -2,7 +2,7 @@ use Rattle.std.proofs.Common.{◌≡◌, ℕ, ◌≤◌, ◌++◌, drop, map}
 use Rattle.std.specs.List.{AllByRecursion}
 use Rattle.kmc_base.specs.Entries.{IsRising, codes_of, entry_at}
 use Rattle.kmc_core.specs.InstanceRange.{IsInRange}
-use Rattle.kmc_core.specs.Trajectory.{renewed}
+use Rattle.trajectory.specs.Trajectory.{renewed}
 use Rattle.kmc_core.proofs.renewal.Renewal.merge.Given as goal
 
 -- the entries so far, and those of the instances that are left, are all entries; of each instance that is left, and of

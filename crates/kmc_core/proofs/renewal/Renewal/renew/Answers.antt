@@ -1,10 +1,11 @@
 use Rattle.std.proofs.Common.{◌≡◌, ◌+◌, ◌*◌, ◌^◌, ◌<◌, ◌≤◌, ◌∷◌, ◌++◌, length, drop, get_or, refl, ap, subst, sym, ◌∙◌, arith}
 use Rattle.std.proofs.lemmas.List.{drop_all, drop_more}
 use Rattle.std.specs.List.{AllByRecursion}
-use Rattle.kmc_core.specs.Instances.{by_code, instances_from, instances_of}
-use Rattle.kmc_core.specs.Trajectory.{renewed}
+use Rattle.trajectory.specs.ByCode.{by_code}
+use Rattle.kmc_core.specs.Instances.{instances_from, instances_of}
+use Rattle.trajectory.specs.Trajectory.{renewed}
 use Rattle.kmc_core.specs.declared.deck.PlainProcess.{PlainProcess}
-use Rattle.kmc_core.specs.declared.instance.Instance.{Instance}
+use Rattle.trajectory.specs.declared.instance.Instance.{Instance}
 use Rattle.kmc_core.proofs.AnchorInstances.{listed-few, listed-fine, own-instances}
 use Rattle.kmc_core.proofs.Instances.{process-from, process-to, processes-from}
 use Rattle.kmc_core.proofs.MergedEntries.{added-alike, none-left, renewed-part}

@@ -1,8 +1,9 @@
 use Rattle.std.proofs.Common.{◌≡◌, ℕ, ◌*◌, ◌^◌, ◌≤◌, ◌++◌, drop}
 use Rattle.kmc_base.specs.Entries.{IsRising, codes_of, entry_at}
-use Rattle.kmc_core.specs.Instances.{by_code, instances_from}
+use Rattle.trajectory.specs.ByCode.{by_code}
+use Rattle.kmc_core.specs.Instances.{instances_from}
 use Rattle.kmc_core.specs.PlainSystem.{system_of}
-use Rattle.kmc_core.specs.Trajectory.{renewed}
+use Rattle.trajectory.specs.Trajectory.{renewed}
 use Rattle.kmc_core.proofs.renewal.Renewal.renew.Given as goal
 
 -- the entries so far, and those of the processes that are left, are all entries; of each code of these processes, what

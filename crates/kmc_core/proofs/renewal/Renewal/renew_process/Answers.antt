@@ -1,8 +1,9 @@
 use Rattle.std.proofs.Common.{◌≡◌, ◌+◌, ◌-◌, ◌*◌, ◌^◌, ◌<◌, ◌≤◌, ◌++◌, refl, ap, subst, sym, ◌∙◌, arith}
 use Rattle.std.specs.List.{AllByRecursion, range_with_len}
-use Rattle.kmc_core.specs.Instances.{by_code, instances_at, instances_of}
-use Rattle.kmc_core.specs.Trajectory.{renewed}
-use Rattle.kmc_core.specs.declared.instance.Instance.{Instance}
+use Rattle.trajectory.specs.ByCode.{by_code}
+use Rattle.kmc_core.specs.Instances.{instances_at, instances_of}
+use Rattle.trajectory.specs.Trajectory.{renewed}
+use Rattle.trajectory.specs.declared.instance.Instance.{Instance}
 use Rattle.lattice_core.specs.Lattice.{site_count}
 use Rattle.kmc_core.proofs.AnchorInstances.{all-anchors, at-from, at-to, instances_with, later-anchors, listed-pattern, next-anchor, none-after}
 use Rattle.kmc_core.proofs.AllLemmas.{all-weaker}

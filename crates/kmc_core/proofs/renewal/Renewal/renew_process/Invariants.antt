@@ -2,8 +2,9 @@ use Rattle.std.proofs.Common.{◌≡◌, ℕ, ◌+◌, ◌-◌, ◌*◌, ◌^◌
 use Rattle.std.specs.List.{range_with_len}
 use Rattle.kmc_base.specs.Entries.{IsRising, codes_of, entry_at}
 use Rattle.kmc_core.proofs.AnchorInstances.{instances_with}
-use Rattle.kmc_core.specs.Instances.{by_code, instances_of}
-use Rattle.kmc_core.specs.Trajectory.{renewed}
+use Rattle.trajectory.specs.ByCode.{by_code}
+use Rattle.kmc_core.specs.Instances.{instances_of}
+use Rattle.trajectory.specs.Trajectory.{renewed}
 use Rattle.lattice_core.specs.Lattice.{site_count}
 use Rattle.kmc_core.proofs.renewal.Renewal.renew_process.Given as goal
 

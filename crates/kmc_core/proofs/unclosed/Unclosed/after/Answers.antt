@@ -1,7 +1,7 @@
 use Rattle.std.proofs.Common.{◌≡◌, ℕ, List, ◌+◌, ◌-◌, ap, arith, refl, sym, subst}
 use Rattle.kmc_core.proofs.Runs.{came_first, closed-well, fires_first}
 use Rattle.kmc_core.specs.Run.{IsClosedAt}
-use Rattle.kmc_core.specs.Trajectory.{Snapshot}
+use Rattle.trajectory.specs.Trajectory.{Snapshot}
 use Rattle.lattice_core.specs.declared.state.State.{State}
 use Rattle.kmc_core.proofs.unclosed.Unclosed.after.Goals as goal
 
