@@ -1,15 +1,15 @@
 -- The entities of a side taken off their sites, or put on them, one after the other.
-use Rattle.std.proofs.Common.{◌≡◌, ◌≢◌, ℕ, zero, suc, ◌+◌, ◌-◌, ◌<◌, ◌≤◌, false, List, [], ◌∷◌, ◌++◌, length, get_or, take, All, AllPairs}
+use Rattle.std.proofs.Common.{◌≡◌, ℕ, zero, suc, ◌+◌, ◌-◌, ◌<◌, ◌≤◌, false, List, [], ◌∷◌, length, get_or, take, All}
 use Rattle.std.proofs.Common.{Option, None, Some, slice_index, refl, subst, sym, ◌∙◌, ap, arith}
 use Rattle.std.specs.List.{cons_option, fold}
 use Rattle.std.proofs.lemmas.Bool.{cond-true, cond-false}
-use Rattle.std.proofs.lemmas.List.{append-nil, get_or_default, take_all, take_more}
+use Rattle.std.proofs.lemmas.List.{get_or_default, take_all, take_more}
 use Rattle.std.proofs.lemmas.List.Elements.{filter_map-append}
 use Rattle.std.proofs.lemmas.List.Sums.{fold-append}
 use Rattle.firing.specs.Entities.{entities, entity_sites, first_of, size_of}
 use Rattle.firing.specs.Firing.{CanClear, CanSet, cleared_side, set_side}
 use Rattle.firing.specs.Sides.{home_of, is_first_dentate, state_for, states_for, with_states}
-use Rattle.firing.specs.Soundness.{HasDentates, HasItsDentates, IsSoundSide}
+use Rattle.firing.specs.Soundness.{HasDentates, HasItsDentates}
 use Rattle.firing.proofs.EntitySites.{listed_of, own_all, own_at, own_count, own_different, own_home, own_some, vertex_of}
 use Rattle.firing.proofs.Placed.{after_cleared, cleared-length, in_state, next_of, put-length, put_off, put_on, side-is, whole_from}
 use Rattle.firing.proofs.Progress.{IsProgress, progress_all, progress_more, progress_none, progress_still, still_old}
@@ -22,7 +22,7 @@ use Rattle.lattice_core.specs.declared.state.State.TheVariants.{Vacant as Free}
 use Rattle.lattice_core.proofs.Adsorbates.{cleared-well_formed, put-well_formed}
 use Rattle.pattern_types.specs.Parts.{PatternParts}
 use Rattle.pattern_types.specs.declared.wanted.Wanted.{Wanted}
-use Rattle.pattern_types.specs.declared.wanted.Wanted.TheVariants.{Any, Vacant, Holds}
+use Rattle.pattern_types.specs.declared.wanted.Wanted.TheVariants.{Any, Holds}
 
 -- ---- the entities of some vertices
 

@@ -1,14 +1,14 @@
 -- The sites of an entity among those of a placement.
 use Rattle.std.proofs.Common.{◌≡◌, ◌≢◌, ℕ, zero, suc, ◌+◌, ◌-◌, ◌<◌, ◌≤◌, true, false, List, [], ◌∷◌, length, get_or, All, AllPairs, inl}
 use Rattle.std.proofs.Common.{inr, refl, subst, sym, ◌∙◌, ap, arith}
-use Rattle.std.proofs.lemmas.Bool.{cases_order, both_ways, false≢true, false_from_ne_true, cond-true, cond-false}
+use Rattle.std.proofs.lemmas.Bool.{cases_order, both_ways, false_from_ne_true, cond-true, cond-false}
 use Rattle.std.proofs.lemmas.List.{get_or_default}
 use Rattle.std.proofs.lemmas.List.FromFn.{get_or-map-range_with_len, length-map-range_with_len}
 use Rattle.firing.specs.Entities.{entity_sites, is_of, size_of}
-use Rattle.firing.specs.Sides.{home_of, is_dentate, is_first_dentate, site_of}
+use Rattle.firing.specs.Sides.{home_of, is_dentate, site_of}
 use Rattle.firing.specs.Soundness.{IsSoundSide}
 use Rattle.firing.proofs.Wants.{want_at, want_inside, dentate_is, of_entity, is_of-holds}
-use Rattle.firing.proofs.Wants.{dentate_from, is_dentate-holds, once, one_species, whole_want}
+use Rattle.firing.proofs.Wants.{dentate_from, is_dentate-holds, once, whole_want}
 use Rattle.kmc_base.specs.declared.ids.SpeciesId.{SpeciesId}
 use Rattle.lattice_core.specs.SiteList.{is_listed}
 use Rattle.lattice_core.proofs.Members.{listed_place, listed_at, same_answers}

@@ -1,17 +1,18 @@
 -- The pairs of the states that a side wants of its sites.
-use Rattle.std.proofs.Common.{◌≡◌, ◌≢◌, ℕ, ◌+◌, ◌<◌, ◌≤◌, List, ◌++◌, ◌∷◌, [], length, get_or, map, set, take, zip, AllPairs, sym, ◌∙◌, ap, arith}
-use Rattle.std.proofs.lemmas.List.{get_or-map, get_or_default, length-map, take_more, take_more_set}
+use Rattle.std.proofs.Common.{◌≡◌, ◌≢◌, ℕ, ◌+◌, ◌<◌, List, ◌++◌, ◌∷◌, [], length, get_or, map, set, take, AllPairs, sym, ◌∙◌, ap, arith}
+use Rattle.std.proofs.lemmas.List.{get_or-map, length-map, take_more, take_more_set}
 use Rattle.std.proofs.lemmas.Slice.Zip.{get_or-zip}
 use Rattle.firing.specs.Sides.{sites_from, state_for, states_for}
 use Rattle.firing.proofs.Placed.{next_of, zip-length}
+use Rattle.firing.proofs.Wants.{want_at}
 use Rattle.kmc_base.specs.declared.ids.SiteId.{SiteId}
 use Rattle.lattice_core.specs.SiteList.{site_numbers}
 use Rattle.lattice_core.specs.declared.state.State.{State}
-use Rattle.lattice_core.specs.declared.state.State.TheVariants.{Vacant as Free}
 use Rattle.pattern_types.specs.Parts.{PatternParts}
+use Rattle.pattern_types.specs.declared.wanted.Wanted.{Wanted}
 use Rattle.pattern_types.specs.declared.wanted.Wanted.TheVariants.{Any}
 
-site_zero : SiteId
+abbrev site_zero : SiteId
 site_zero = record { 0 = 0 }
 
 module _ (side : PatternParts) (sites : List ℕ) (long : length sites ≡ length side.wanted) where
@@ -53,3 +54,15 @@ module _ (side : PatternParts) (sites : List ℕ) (long : length sites ≡ lengt
       let number : SiteId × State → ℕ = λ p. p.0.0 in
       different i j 0 below (omega arith)
       (sym (ap number (given_pair i d (omega arith))) ∙ same ∙ ap number (given_pair j d (omega arith)))
+
+-- what is written of a vertex is its pair
+pub written_is : (side : PatternParts) (sites : List SiteId) (k place : ℕ) (wanted : Wanted) (state : State)
+    → place ≡ k → k < length sites → want_at side.wanted k ≡ wanted → state ≡ state_for side (site_numbers sites) wanted
+    → ◌≡◌ {A = SiteId × State} (get_or sites place site_zero, state)
+    (record { 0 = get_or (site_numbers sites) k 0 }, next_of side (site_numbers sites) k)
+written_is side sites k place wanted state here low want is =
+    let number : SiteId → ℕ = λ s. s.0 in
+    let pair : ℕ → State → SiteId × State = λ n x. (record { 0 = n }, x) in
+    ap (λ n. pair (get_or sites n site_zero).0 state) here
+    ∙ ap (λ n. pair n state) (sym (get_or-map number sites k site_zero 0 low))
+    ∙ ap (pair (get_or (site_numbers sites) k 0)) (is ∙ ap (state_for side (site_numbers sites)) (sym want))

@@ -1,5 +1,5 @@
 -- Firing clears the initial entities and then sets the final ones, and keeps a configuration well formed.
-use Rattle.std.proofs.Common.{◌≡◌, ℕ, ◌<◌, List, length, subst, sym, ◌∙◌, arith}
+use Rattle.std.proofs.Common.{◌≡◌, ℕ, List, subst, sym, ◌∙◌, arith}
 use Rattle.firing.specs.Firing.{CanFire, CanSet, cleared_side, set_side}
 use Rattle.firing.specs.Sides.{states_for, with_states}
 use Rattle.firing.specs.Soundness.{HasDentates}

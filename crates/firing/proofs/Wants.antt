@@ -1,6 +1,6 @@
 -- What a sound side says of its vertices.
-use Rattle.std.proofs.Common.{◌≡◌, ◌≢◌, ℕ, ◌+◌, ◌-◌, ◌<◌, ◌≤◌, true, false, ◌&&◌, eqb, List, length, get_or, inl, inr, refl, subst, sym}
-use Rattle.std.proofs.Common.{◌∙◌, ap, arith, Option, Some, None, slice_get}
+use Rattle.std.proofs.Common.{◌≡◌, ℕ, ◌<◌, true, false, ◌&&◌, eqb, List, length, get_or, inl, inr, refl, subst, sym}
+use Rattle.std.proofs.Common.{◌∙◌, ap, Some, None, slice_get}
 use Rattle.std.proofs.lemmas.Bool.{cases_Bool, cases_lt, cases_order, cases_eq, eq-eqb, eqb-true, ne_eqb, both_ways, false≢true, and_parts, cond-true}
 use Rattle.std.proofs.Math.Bool.{and-true, and-false}
 use Rattle.std.proofs.lemmas.List.{get_or_past}

@@ -1,4 +1,4 @@
-use Rattle.std.proofs.Common.{◌≡◌, ◌+◌, ◌-◌, ◌<◌, ◌∙◌, length, ap, arith, inl, inr, subst, sym}
+use Rattle.std.proofs.Common.{◌≡◌, ◌-◌, ◌<◌, ◌∙◌, length, ap, arith, inl, inr, sym}
 use Rattle.std.proofs.lemmas.Bool.{cases_eq}
 use Rattle.firing.specs.Sides.{is_dentate}
 use Rattle.firing.proofs.EntitySites.{site_first, site_none}

@@ -1,4 +1,4 @@
-use Rattle.std.proofs.Common.{◌≡◌, ◌≢◌, ℕ, ◌+◌, ◌-◌, ◌∙◌, ◌<◌, ◌≤◌, All, AllPairs, List, length, ap, sym, subst, arith}
+use Rattle.std.proofs.Common.{◌≡◌, ◌≢◌, ℕ, ◌+◌, ◌-◌, ◌∙◌, ◌<◌, ◌≤◌, All, AllPairs, length, ap, sym, subst, arith}
 use Rattle.firing.specs.Entities.{entity_sites, first_of}
 use Rattle.firing.specs.Firing.{set_side}
 use Rattle.firing.proofs.EachEntity.{done_all, done_until, done_with, done_without, inside_next, set_entity, set_states, set_well_formed, vacant_next}
@@ -7,7 +7,6 @@ use Rattle.firing.proofs.Wants.{first_from, want_at, want_read}
 use Rattle.lattice_core.specs.Config.{IsWellFormed, put, state_at}
 use Rattle.lattice_core.specs.SiteList.{site_numbers}
 use Rattle.lattice_core.specs.declared.state.State.TheVariants.{Vacant}
-use Rattle.lattice_core.proofs.Finding.{number_of-is}
 use Rattle.pattern_types.specs.declared.wanted.Wanted.TheVariants.{Holds}
 use Rattle.std.proofs.lemmas.List.{length-map}
 use Rattle.kmc_base.specs.declared.ids.SiteId.{SiteId}

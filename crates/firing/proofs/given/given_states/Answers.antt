@@ -1,13 +1,12 @@
-use Rattle.std.proofs.Common.{◌≡◌, ◌≢◌, ℕ, ◌+◌, ◌-◌, ◌∙◌, ◌<◌, ◌≤◌, AllPairs, List, length, get_or, set, take, ap, sym, subst, arith}
+use Rattle.std.proofs.Common.{◌≡◌, ◌≢◌, ℕ, ◌+◌, ◌-◌, ◌∙◌, ◌<◌, ◌≤◌, AllPairs, length, get_or, set, take, ap, sym, subst, arith}
 use Rattle.std.proofs.lemmas.List.{length-map, length-set, take_all}
-use Rattle.firing.specs.Sides.{state_for, states_for}
-use Rattle.firing.proofs.GivenPairs.{given_count, given_different, given_more}
-use Rattle.firing.proofs.Wants.{want_at, want_read}
+use Rattle.firing.specs.Sides.{states_for}
+use Rattle.firing.proofs.GivenPairs.{given_count, given_different, given_more, written_is}
+use Rattle.firing.proofs.Wants.{want_read}
 use Rattle.kmc_base.specs.declared.ids.SiteId.{SiteId}
 use Rattle.lattice_core.specs.SiteList.{site_numbers}
 use Rattle.lattice_core.specs.declared.state.State.{State}
-use Rattle.lattice_core.proofs.Finding.{number_of, number_of-is}
-use Rattle.pattern_types.specs.declared.wanted.Wanted.{Wanted}
+use Rattle.lattice_core.proofs.Finding.{number_of-is}
 use Rattle.firing.proofs.given.given_states.Goals as goal
 use Rattle.firing.proofs.given.given_states.Goals.{After-loop-vertex}
 
@@ -19,19 +18,11 @@ loop-vertex-preserved c =
     let at = c.loop-vertex.invariant in
     let place : c.from-place.result - 1 ≡ k = ap (λ n. n - 1) c.from-place.ensures in
     let next : k + 1 ≡ c.loop-vertex.vertex + 1 - 1 = omega arith in
-    let here = number_of-is c.args.sites.now k (omega (arith, c.len-vertex-end.ensures.value, c.requires)) in
-    let pair : ℕ → Wanted → SiteId × State = λ n w. (record { 0 = n }, state_for side sites w) in
+    let within : k < length c.args.sites.now = omega (arith, c.len-vertex-end.ensures.value, c.requires) in
     let written : SiteId × State = (get_or c.args.sites.now (c.from-place.result - 1) (record { 0 = 0 }), c.state_for-state.result) in
-    let is : written ≡ pair (get_or sites k 0) (want_at side.wanted k) = ap (λ x. (
-      record {
-        0 = number_of c.args.sites.now (c.from-place.result
-            - 1);
-      },
-      x,
-    )) c.state_for-state.ensures
-    ∙ ap (λ n. pair (number_of c.args.sites.now n) c.wanted.result) place
-    ∙ ap (λ n. pair n c.wanted.result) (sym here.1)
-    ∙ ap (pair (get_or sites k 0)) (sym (want_read side.wanted k c.wanted.result c.wanted.ensures)) in
+    let is = written_is side c.args.sites.now k (c.from-place.result - 1) c.wanted.result c.state_for-state.result place within
+    (want_read side.wanted k c.wanted.result c.wanted.ensures) c.state_for-state.ensures in
+    let numbered = number_of-is c.args.sites.now k within in
     let long = length-map c.args.sites.now (λ (s : SiteId). s.0) ∙ c.requires in
     let most = c.len-vertex-end.ensures.sound.few in
     let low : k < length c.loop-vertex.pairs = omega (arith, at.count, most, c.len-vertex-end.ensures.value) in
@@ -39,7 +30,7 @@ loop-vertex-preserved c =
       count = length-set _ _ _ ∙ at.count;
       states = subst (λ (n : ℕ). take n (set c.loop-vertex.pairs (c.from-place.result - 1) written) ≡ take n (states_for side sites)) next
           (ap (λ n. take (k + 1) (set c.loop-vertex.pairs n written)) place
-          ∙ given_more side sites long c.loop-vertex.pairs k written low here.0 at.states is);
+          ∙ given_more side sites long c.loop-vertex.pairs k written low numbered.0 at.states is);
     }
 
 -- the pairs are those of the side
