@@ -1,5 +1,5 @@
 -- Where a sound side of a step matches a well-formed configuration, each site is in the state that the side wants of it.
-use Rattle.std.proofs.Common.{◌≡◌, ℕ, ◌+◌, ◌-◌, ◌<◌, ◌≤◌, Bool, true, false, eqb, List, length, get_or, refl, subst, sym, ◌∙◌, ap, arith}
+use Rattle.std.proofs.Common.{◌≡◌, ℕ, ◌+◌, ◌-◌, ◌<◌, Bool, true, false, eqb, List, length, get_or, refl, subst, sym, ◌∙◌, ap, arith}
 use Rattle.std.specs.Bool.{beq}
 use Rattle.std.specs.List.{list_all}
 use Rattle.std.proofs.lemmas.Bool.{eq-eqb, eqb-true, false≢true, and_parts}
@@ -8,7 +8,6 @@ use Rattle.firing.specs.Sides.{AreInStates, home_of, state_for, states_for}
 use Rattle.firing.specs.Soundness.{IsSoundSide, IsWholeWant}
 use Rattle.firing.proofs.EntitySites.{placed}
 use Rattle.firing.proofs.GivenPairs.{given_count, given_pair}
-use Rattle.firing.proofs.Placed.{next_of}
 use Rattle.firing.proofs.Wants.{want_at, whole_want}
 use Rattle.kmc_base.specs.declared.ids.SiteId.{SiteId}
 use Rattle.kmc_base.specs.declared.ids.SpeciesId.{SpeciesId}

@@ -1,7 +1,4 @@
 use Rattle.std.proofs.Common.{◌∙◌, ap, length, sym}
-use Rattle.std.proofs.lemmas.List.{length-map}
-use Rattle.firing.specs.Firing.{CanFire}
-use Rattle.kmc_base.specs.declared.ids.SiteId.{SiteId}
 use Rattle.lattice_core.specs.SiteList.{site_numbers}
 use Rattle.kmc_core.proofs.MatchedStates.{in_wanted_states}
 use Rattle.kmc_core.proofs.OfferedPlacements.{decoded, named, process_is_there}
