@@ -1,0 +1,5 @@
+pub mod FaultLists
+pub mod NameFaults
+pub mod Powers
+pub mod Ranges
+pub mod Repeats
