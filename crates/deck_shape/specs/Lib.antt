@@ -4,6 +4,7 @@ pub mod Lists
 pub mod Forms
 pub mod Names
 pub mod WordLines
+pub mod BlockValues
 pub mod Numbers
 pub mod Reading
 pub mod LineFaults

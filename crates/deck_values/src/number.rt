@@ -1,4 +1,4 @@
-ghost use Rattle.std.specs.Prelude.{◌≡◌, ◌<◌, ◌≤◌, ◌≤ℤ◌, ◌*◌, ◌^◌, IfOk, nat_le, true};
+ghost use Rattle.std.specs.Prelude.{◌≡◌, ◌<◌, ◌≤◌, ◌≤ℤ◌, ◌*◌, ◌^◌, IfOk, nat_le, pos, true};
 ghost use Rattle.dec_text.specs.Decimals.{decimal_of};
 ghost use Rattle.dec_text.specs.Wholes.{whole_number};
 ghost use Rattle.deck_values.specs.Numbers.{IsScaledRange, amount_in, any_decimal, decimal_kind, is_at_most, is_up_to, is_whole_in, scaled_in, up_to, whole_in};
@@ -83,11 +83,12 @@ pub fn scaled_in(range: ScaledRange, word: &[u8]) -> Result<i128, u8>
     }
 }
 
-/// The size of a word's number in the units of a range, for a range without negative numbers; its faults are those of
-/// `scaled_in`.
+/// The size of a word's number in the units of a range that has no negative number; its faults are those of `scaled_in`.
 pub fn amount_in(range: ScaledRange, word: &[u8]) -> Result<u128, u8>
     requires range { IsScaledRange range }
+    requires positive { pos 0 ≤ℤ range.least }
     ensures value { result ≡ amount_in range word.now }
+    ensures range { IfOk result (λ n. (range.least ≤ℤ pos n) × (pos n ≤ℤ range.most)) }
 {
     match scaled_in(range, word) {
         Ok(units) => Ok(units.unsigned_abs()),

@@ -1,9 +1,1 @@
-mod FaultLines
-mod KeywordLines
-mod Maps
-mod NoFaults
-mod SamplingWords
-mod SoundLists
-mod Stated
-mod WrittenNumbers
-mod WrittenSamplings
+pub mod LongWords

@@ -1,8 +1,5 @@
-pub mod Faults
-pub mod Forms
-pub mod Lists
 pub mod Samplings
 pub mod Soundness
-pub mod Stated
+pub mod Species
 pub mod Values
 pub mod Views

@@ -1,10 +1,9 @@
 -- What the values of every simulation file without faults keep.
 use Rattle.std.specs.Prelude.{◌≡◌, ℕ, ◌^◌, ◌≤◌, ◌<◌, true, false, List, map, length, unsigned_abs, IfSome}
 use Rattle.std.specs.List.{All, list_any}
-use Rattle.deck_shape.specs.Lists.{names_repeat}
-use Rattle.deck_shape.specs.Numbers.{is_up_to}
+use Rattle.deck_values.specs.Names.{is_bad_name, names_repeat}
+use Rattle.deck_values.specs.Numbers.{is_up_to}
 use Rattle.kmc_base.specs.declared.limits.TheConstants.{END_OF_TIME, MAX_DENTATES, MAX_ENERGY, MAX_EVENTS, MAX_SPECIES}
-use Rattle.sim_deck.specs.Lists.{is_bad_name}
 use Rattle.sim_deck.specs.Values.{SimValues}
 use Rattle.sim_deck.specs.declared.part.Plan.{Plan}
 use Rattle.sim_deck.specs.declared.part.Sampling.{Sampling}
@@ -24,16 +23,6 @@ pub record IsSoundPlan (plan : Plan) : Type 0 where
   pub history : IsPeriod plan.history
   pub procstat : IsPeriod plan.procstat
   pub specnum : IsPeriod plan.specnum
-
--- all numbers are in their ranges: the temperature in mK, the pressure in bar, energies in neV
-pub record AreInRange (values : SimValues) : Type 0 where
-  pub plan : IsSoundPlan values.plan
-  pub some_temperature : 1 ≤ values.temperature
-  pub temperature : values.temperature ≤ 10000000
-  pub pressure : is_up_to 9 values.pressure ≡ true
-  pub energies : All (λ e. unsigned_abs e ≤ unsigned_abs MAX_ENERGY) values.gas_energies
-  pub fractions : All (λ n. is_up_to 0 n ≡ true) values.gas_fractions
-  pub dentates : All (λ d. (1 ≤ d) × (d ≤ MAX_DENTATES)) values.dentates
 
 -- the names of a list differ, none is `*` or `&`, and there are at most 64
 pub record AreNames (names : List (List ℕ)) : Type 0 where

@@ -1,24 +1,26 @@
--- The values of a simulation file: each is that of the one line that has its keyword, or the default.
-use Rattle.std.specs.Prelude.{ℕ, ℤ, pos, neg_ℤ, List, [], ◌∷◌, map, Option, None, Some, Result, Ok, Err, if◌then◌else◌, unsigned_abs}
-use Rattle.std.specs.Option.{option_map_or}
-use Rattle.dec_text.specs.Decimals.{Scientific, decimal_of}
-use Rattle.dec_text.specs.Wholes.{whole_number}
-use Rattle.deck_shape.specs.Blocks.{BlockLines, ItemLines}
-use Rattle.deck_shape.specs.WordLines.{list_in, names_in, words_behind}
+-- The values of a simulation file: each is that of the one line that has its keyword, or the default where it has none.
+use Rattle.std.specs.Prelude.{ℕ, ℤ, List, map, Option, None, Some, Result, Ok, if◌then◌else◌, codes}
+use Rattle.std.specs.Result.{result_err}
+use Rattle.dec_text.specs.Decimals.{Scientific}
+use Rattle.deck_shape.specs.BlockValues.{missing_word, value_or}
+use Rattle.deck_shape.specs.Blocks.{BlockLines}
 use Rattle.deck_shape.specs.Names.{NameWord, name_at}
+use Rattle.deck_values.specs.Numbers.{amount_in, up_to, whole_in}
+use Rattle.deck_values.specs.Words.{one}
+use Rattle.deck_words.specs.Faults.{both, value_map, with_fault}
+use Rattle.deck_words.specs.Tables.{same_word}
 use Rattle.deck_words.specs.declared.fault.LineFault.{LineFault}
 use Rattle.deck_words.specs.declared.keyword.Keyword.{Keyword}
-use Rattle.deck_words.specs.declared.keyword.Keyword.TheVariants.{RandomSeed, Temperature, Pressure, GasSpecsNames, GasEnergies}
-use Rattle.deck_words.specs.declared.keyword.Keyword.TheVariants.{GasMolarFracs, SurfSpecsNames, SurfSpecsDent, Snapshots}
-use Rattle.deck_words.specs.declared.keyword.Keyword.TheVariants.{ProcessStatistics, SpeciesNumbers, MaxSteps, MaxTime}
-use Rattle.sim_deck.specs.Faults.{first_fault, is_infinity}
-use Rattle.deck_shape.specs.Numbers.{decimal_value, up_to_value, whole_value, zero}
+use Rattle.deck_words.specs.declared.keyword.Keyword.TheVariants.{MaxSteps, MaxTime, Pressure, ProcessStatistics, RandomSeed}
+use Rattle.deck_words.specs.declared.keyword.Keyword.TheVariants.{Snapshots, SpeciesNumbers, Temperature, WallTime}
+use Rattle.kmc_base.specs.declared.limits.TheConstants.{MAX_EVENTS}
 use Rattle.sim_deck.specs.Samplings.{sampling_of}
-use Rattle.kmc_base.specs.declared.limits.TheConstants.{END_OF_TIME, MAX_DENTATES, MAX_ENERGY, MAX_EVENTS}
+use Rattle.sim_deck.specs.Species.{GasValues, SurfaceValues, gas_in, surface_in}
 use Rattle.sim_deck.specs.declared.part.Plan.{Plan}
 use Rattle.sim_deck.specs.declared.part.Sampling.{Sampling}
 use Rattle.sim_deck.specs.declared.part.Sampling.TheVariants.{Off}
 use Rattle.sim_deck.specs.declared.part.SimPart.{SimPart}
+use Rattle.sim_deck.specs.declared.ranges.TheConstants.{ANY_WHOLE, EVENT_LIMIT, PRESSURE, TEMPERATURE, TIME_LIMIT}
 
 -- the values, with the names as words on lines
 pub record SimValues : Type 0 where
@@ -44,81 +46,90 @@ values_at text part = record {
   dentates = part.dentates;
 }
 
--- the word behind a keyword, where there is one
-abbrev pub first_word : List (List ℕ) → List ℕ
-first_word [] = []
-first_word (word ∷ words) = word
+-- the random seed
+abbrev pub seed_in : BlockLines → Result ℕ LineFault
+seed_in block = value_or (Ok 0) (one (whole_in ANY_WHOLE)) RandomSeed block.items
 
--- a whole number from least to most, or the default
-abbrev pub whole_in : Keyword → ℕ → ℕ → ℕ → List ItemLines → ℕ
-whole_in keyword least most default items =
-    option_map_or (λ words. whole_value least most default (whole_number (first_word words))) (words_behind keyword items) default
-
--- the temperature in mK
-abbrev pub temperature_in : List ItemLines → ℕ
-temperature_in items =
-    unsigned_abs (option_map_or
-    (λ words. decimal_value 3 (pos 1) (pos 10000000) (pos 1) (decimal_of (first_word words)))
-    (words_behind Temperature items) (pos 1))
+-- the temperature in mK, which is written in K
+abbrev pub temperature_in : BlockLines → Result ℕ LineFault
+temperature_in block = value_or (missing_word block.end_line) (one (amount_in TEMPERATURE)) Temperature block.items
 
 -- the pressure in bar
-abbrev pub pressure_in : List ItemLines → Scientific
-pressure_in items = option_map_or (λ words. up_to_value 9 (decimal_of (first_word words))) (words_behind Pressure items) zero
+abbrev pub pressure_in : BlockLines → Result Scientific LineFault
+pressure_in block = value_or (missing_word block.end_line) (one (up_to PRESSURE.power)) Pressure block.items
 
--- an energy in neV, which is written in eV
-abbrev pub energy_of : List ℕ → ℤ
-energy_of word = decimal_value 9 (neg_ℤ MAX_ENERGY) MAX_ENERGY (pos 0) (decimal_of word)
+-- a number, or the word `infinity`
+abbrev pub or_infinity : {X : Type 0} → X → (List ℕ → Result X ℕ) → List ℕ → Result X ℕ
+or_infinity infinite read word = if same_word (codes "infinity") word then Ok infinite else read word
 
--- a molar fraction, from 0 to 1
-abbrev pub fraction_of : List ℕ → Scientific
-fraction_of word = up_to_value 0 (decimal_of word)
+-- the greatest number of events; infinitely many are 2^40 - 1
+abbrev pub event_limit : List ℕ → Result ℕ ℕ
+event_limit word = or_infinity MAX_EVENTS (whole_in EVENT_LIMIT) word
 
--- a number of dentates
-abbrev pub dentates_of : List ℕ → ℕ
-dentates_of word = whole_value 1 MAX_DENTATES 1 (whole_number word)
+abbrev pub event_limit_in : BlockLines → Result ℕ LineFault
+event_limit_in block = value_or (Ok MAX_EVENTS) (one event_limit) MaxSteps block.items
+
+-- the greatest time in attoseconds, which is written in s; None where there is none
+abbrev pub time_limit : List ℕ → Result (Option ℕ) ℕ
+time_limit word = or_infinity None (λ time. value_map (λ t. Some t) (amount_in TIME_LIMIT time)) word
+
+abbrev pub time_limit_in : BlockLines → Result (Option ℕ) LineFault
+time_limit_in block = value_or (Ok None) (one time_limit) MaxTime block.items
+
+-- the wall time, which is used for nothing
+abbrev pub wall_time : List ℕ → Result (Option ℕ) ℕ
+wall_time word = or_infinity None (λ time. value_map (λ t. Some t) (whole_in ANY_WHOLE time)) word
+
+abbrev pub wall_time_in : BlockLines → Result (Option ℕ) LineFault
+wall_time_in block = value_or (Ok None) (one wall_time) WallTime block.items
 
 -- when an output is sampled; never, where nothing is said
-abbrev pub sampling_in : Keyword → List ItemLines → Sampling
-sampling_in keyword items = option_map_or sampling_of (words_behind keyword items) Off
+abbrev pub sampling_in : Keyword → BlockLines → Result Sampling LineFault
+sampling_in keyword block = value_or (Ok Off) sampling_of keyword block.items
 
--- the greatest time in attoseconds, where the words state one
-abbrev pub time_limit : List (List ℕ) → Option ℕ
-time_limit words =
-    if is_infinity words then None else Some (unsigned_abs (decimal_value 18 (pos 0) (pos END_OF_TIME) (pos 0) (decimal_of (first_word words))))
+-- the seed of a run and its limits
+abbrev pub limits_in : BlockLines → Result ((ℕ × ℕ) × Option ℕ) LineFault
+limits_in block = both (both (seed_in block) (event_limit_in block)) (time_limit_in block)
 
--- the greatest time in attoseconds; None where the file states none
-abbrev pub time_limit_in : List ItemLines → Option ℕ
-time_limit_in items = option_map_or time_limit (words_behind MaxTime items) None
+-- when the three outputs are sampled
+abbrev pub samplings_in : BlockLines → Result ((Sampling × Sampling) × Sampling) LineFault
+samplings_in block = both (both (sampling_in Snapshots block) (sampling_in ProcessStatistics block)) (sampling_in SpeciesNumbers block)
 
--- the seed of a run, its limits, and when its outputs are sampled; `infinity` events are 2^40 - 1
-abbrev pub plan_of : List ItemLines → Plan
-plan_of items = record {
-  seed = whole_in RandomSeed 0 18446744073709551615 0 items;
-  max_steps = whole_in MaxSteps 0 MAX_EVENTS MAX_EVENTS items;
-  max_time = time_limit_in items;
-  history = sampling_in Snapshots items;
-  procstat = sampling_in ProcessStatistics items;
-  specnum = sampling_in SpeciesNumbers items;
-}
+-- the plan of a run
+abbrev pub plan_in : BlockLines → Result Plan LineFault
+plan_in block =
+    value_map
+    (λ parts. record {
+      seed = parts.0.0.0;
+      max_steps = parts.0.0.1;
+      max_time = parts.0.1;
+      history = parts.1.0.0;
+      procstat = parts.1.0.1;
+      specnum = parts.1.1;
+    })
+    (both (limits_in block) (samplings_in block))
 
--- all the values: energies in neV, the temperature in mK, the pressure in bar, times in attoseconds
-abbrev pub values_of : List ItemLines → SimValues
-values_of items = record {
-  plan = plan_of items;
-  temperature = temperature_in items;
-  pressure = pressure_in items;
-  gas = names_in GasSpecsNames items;
-  gas_energies = map energy_of (list_in GasEnergies items);
-  gas_fractions = map fraction_of (list_in GasMolarFracs items);
-  surface = names_in SurfSpecsNames items;
-  dentates = map dentates_of (list_in SurfSpecsDent items);
-}
+-- the plan of a run, and the temperature and the pressure
+abbrev pub conditions_in : BlockLines → Result (Plan × (ℕ × Scientific)) LineFault
+conditions_in block = both (plan_in block) (both (temperature_in block) (pressure_in block))
 
--- the values, unless there is a fault
-abbrev pub values_unless : SimValues → Option (ℕ × ℕ) → Result SimValues LineFault
-values_unless values None = Ok values
-values_unless values (Some fault) = Err (record { line = fault.0; kind = fault.1 })
+-- the values of a file of these conditions and species
+abbrev pub part_with : Result (Plan × (ℕ × Scientific)) LineFault → Result GasValues LineFault → Result SurfaceValues LineFault → Result SimValues LineFault
+part_with conditions gas surface =
+    value_map
+    (λ parts. record {
+      plan = parts.0.0;
+      temperature = parts.0.1.0;
+      pressure = parts.0.1.1;
+      gas = parts.1.0.names;
+      gas_energies = parts.1.0.energies;
+      gas_fractions = parts.1.0.fractions;
+      surface = parts.1.1.names;
+      dentates = parts.1.1.dentates;
+    })
+    (both conditions (both gas surface))
 
 -- the values of the block of a simulation file, or its first fault
 abbrev pub part_of : BlockLines → Result SimValues LineFault
-part_of block = values_unless (values_of block.items) (first_fault block)
+part_of block =
+    with_fault (result_err (wall_time_in block)) (part_with (conditions_in block) (gas_in block) (surface_in block))

@@ -1,18 +1,23 @@
 //! The values of the simulation file, `simulation_input.dat`.
 //!
-//! `read` gives exactly the values of a file of the right shape, or exactly its first fault of a value. The forms of
-//! the words are tables of data, which the definitions read too. The keywords and their meanings are those of the Zacros
-//! manual; the units, ranges and defaults are kmc's own. It uses deck_shape, dec_text and kmc_base.
+//! `read` gives exactly the values of a file of the right shape, or exactly its first fault of a value. Each value has one
+//! definition, from the words of its line to the value or the kind of its fault. The keywords and their meanings are
+//! those of the Zacros manual; the units, ranges and defaults are kmc's own. It uses deck_shape, deck_values, deck_words
+//! and dec_text.
 #![tactic(auto)]
 
-mod faults;
-mod forms;
-mod lists;
+mod lines;
 mod part;
+mod plan;
+mod ranges;
 mod reader;
 mod samplings;
-mod values;
+mod species;
+mod words;
 
-pub use forms::{Count, FORMS, Form, NEEDED_LISTS, NeededList};
 pub use part::{Plan, Sampling, SimPart};
+pub use ranges::{
+    ANY_WHOLE, DENTATES, ENERGY, EVENT_LIMIT, EVENT_PERIOD, FRACTION, PRESSURE, SPECIES_COUNT,
+    TEMPERATURE, TIME_LIMIT, TIME_PERIOD,
+};
 pub use reader::read;

@@ -1,0 +1,129 @@
+//! The plan of a run, and its conditions.
+
+ghost use Rattle.std.specs.Prelude.{◌≡◌};
+ghost use Rattle.deck_shape.specs.BlockValues.{missing_word};
+ghost use Rattle.deck_shape.specs.Blocks.{block_at};
+ghost use Rattle.sim_deck.specs.Values.{conditions_in, event_limit_in, limits_in, plan_in, pressure_in, sampling_in, samplings_in, seed_in, temperature_in, time_limit_in, wall_time_in};
+
+use crate::lines::value_or;
+use crate::part::{Plan, Sampling};
+use crate::ranges::{ANY_WHOLE, PRESSURE};
+use crate::samplings::sampling_of;
+use crate::words::{EventLimit, Temperature, TimeLimit, WallTime};
+use dec_text::Decimal;
+use deck_shape::{Block, Keyword};
+use deck_words::kind::MISSING_WORD;
+use deck_words::{LineFault, at_line, both};
+use kmc_base::MAX_EVENTS;
+
+/// The random seed.
+fn seed_in(bytes: &[u8], block: &Block) -> Result<u64, LineFault>
+    ensures { result ≡ seed_in (block_at bytes.now block.now) }
+{
+    value_or(Ok(0), &ANY_WHOLE, bytes, block, Keyword::RandomSeed)
+}
+
+/// The greatest number of events.
+fn event_limit_in(bytes: &[u8], block: &Block) -> Result<u64, LineFault>
+    ensures { result ≡ event_limit_in (block_at bytes.now block.now) }
+{
+    value_or(Ok(MAX_EVENTS), &EventLimit, bytes, block, Keyword::MaxSteps)
+}
+
+/// The greatest time in attoseconds, if there is one.
+fn time_limit_in(bytes: &[u8], block: &Block) -> Result<Option<u128>, LineFault>
+    ensures { result ≡ time_limit_in (block_at bytes.now block.now) }
+{
+    value_or(Ok(None), &TimeLimit, bytes, block, Keyword::MaxTime)
+}
+
+/// The wall time, which is used for nothing.
+pub(crate) fn wall_time_in(bytes: &[u8], block: &Block) -> Result<Option<u64>, LineFault>
+    ensures { result ≡ wall_time_in (block_at bytes.now block.now) }
+{
+    value_or(Ok(None), &WallTime, bytes, block, Keyword::WallTime)
+}
+
+/// When an output is sampled.
+fn sampling_in(bytes: &[u8], block: &Block, keyword: Keyword) -> Result<Sampling, LineFault>
+    ensures { result ≡ sampling_in keyword (block_at bytes.now block.now) }
+{
+    match block.item(bytes, keyword) {
+        Some(item) => at_line(item.line.number, sampling_of(bytes, item.arguments())),
+        None => Ok(Sampling::Off),
+    }
+}
+
+/// The seed of a run and its limits.
+fn limits_in(bytes: &[u8], block: &Block) -> Result<((u64, u64), Option<u128>), LineFault>
+    ensures { result ≡ limits_in (block_at bytes.now block.now) }
+{
+    let seed = seed_in(bytes, block);
+    let events = event_limit_in(bytes, block);
+    both(both(seed, events), time_limit_in(bytes, block))
+}
+
+/// When the three outputs are sampled.
+fn samplings_in(bytes: &[u8], block: &Block) -> Result<((Sampling, Sampling), Sampling), LineFault>
+    ensures { result ≡ samplings_in (block_at bytes.now block.now) }
+{
+    let history = sampling_in(bytes, block, Keyword::Snapshots);
+    let procstat = sampling_in(bytes, block, Keyword::ProcessStatistics);
+    let specnum = sampling_in(bytes, block, Keyword::SpeciesNumbers);
+    both(both(history, procstat), specnum)
+}
+
+/// The plan of a run.
+fn plan_in(bytes: &[u8], block: &Block) -> Result<Plan, LineFault>
+    ensures { result ≡ plan_in (block_at bytes.now block.now) }
+{
+    let limits = limits_in(bytes, block);
+    let samplings = samplings_in(bytes, block);
+    let (((seed, max_steps), max_time), ((history, procstat), specnum)) = both(limits, samplings)?;
+    Ok(Plan {
+        seed,
+        max_steps,
+        max_time,
+        history,
+        procstat,
+        specnum,
+    })
+}
+
+/// A required word is absent.
+fn missing_word<T>(block: &Block) -> Result<T, LineFault>
+    ensures { result ≡ missing_word block.now.end_line }
+{
+    Err(LineFault {
+        line: block.end_line,
+        kind: MISSING_WORD,
+    })
+}
+
+/// The temperature, in mK.
+fn temperature_in(bytes: &[u8], block: &Block) -> Result<u32, LineFault>
+    ensures { result ≡ temperature_in (block_at bytes.now block.now) }
+{
+    let absent = missing_word(block);
+    value_or(absent, &Temperature, bytes, block, Keyword::Temperature)
+}
+
+/// The pressure, in bar.
+fn pressure_in(bytes: &[u8], block: &Block) -> Result<Decimal, LineFault>
+    ensures { result ≡ pressure_in (block_at bytes.now block.now) }
+{
+    let absent = missing_word(block);
+    value_or(absent, &PRESSURE, bytes, block, Keyword::Pressure)
+}
+
+/// The plan of a run, and the temperature and the pressure.
+pub(crate) fn conditions_in(
+    bytes: &[u8],
+    block: &Block,
+) -> Result<(Plan, (u32, Decimal)), LineFault>
+    ensures { result ≡ conditions_in (block_at bytes.now block.now) }
+{
+    let plan = plan_in(bytes, block);
+    let temperature = temperature_in(bytes, block);
+    both(plan, both(temperature, pressure_in(bytes, block)))
+}
