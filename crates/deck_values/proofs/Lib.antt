@@ -3,3 +3,4 @@ pub mod NameFaults
 pub mod Powers
 pub mod Ranges
 pub mod Repeats
+pub mod Values

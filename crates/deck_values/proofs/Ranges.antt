@@ -1,10 +1,18 @@
 -- what the readings of numbers give is in their ranges
-use Rattle.std.proofs.Common.{◌≡◌, ◌≤ℤ◌, ◌||◌, ap, ℕ, ℤ, Bool, true, false, IfOk, Err, Ok, Result, T, refl, sym, subst, if◌then◌else◌, not}
+use Rattle.std.proofs.Common.{◌≡◌, ◌≤◌, ◌≤ℤ◌, ◌||◌, List, ap, ℕ, ℤ, Bool, true, false, IfOk, Err, Ok, Result, T, refl, sym, subst, if◌then◌else◌, not}
 use Rattle.std.specs.Int.Signed.{lt_z, lt_z_no}
 use Rattle.std.proofs.lemmas.Result.{IfOk-at_ok}
 use Rattle.dec_text.specs.Decimals.{Scientific}
 use Rattle.dec_text.specs.Scaled.{scaled_value, scaled_within, within_bounds}
-use Rattle.deck_values.specs.Numbers.{scaled_or_kind}
+use Rattle.dec_text.specs.Decimals.{decimal_of}
+use Rattle.dec_text.specs.Wholes.{whole_number}
+use Rattle.dec_text.specs.declared.faults.DecimalFault.{DecimalFault}
+use Rattle.dec_text.specs.declared.faults.NotWhole.{NotWhole}
+use Rattle.deck_words.specs.declared.kind.TheConstants.{OUT_OF_RANGE}
+use Rattle.deck_values.specs.Numbers.{is_up_to, is_whole_in, scaled_from, scaled_in, scaled_or_kind, up_to, up_to_from, whole_in, whole_within}
+use Rattle.deck_values.specs.declared.number.ScaledRange.{ScaledRange}
+use Rattle.deck_values.specs.declared.number.WholeRange.{WholeRange}
+use Rattle.std.proofs.lemmas.Bool.{and_parts, leb-true}
 
 bounded : (value low high : ℤ) (below above : Bool) → lt_z value low ≡ below → lt_z high value ≡ above
     → IfOk (scaled_or_kind (if below || above then Err record {} else Ok value)) (λ n. (low ≤ℤ n) × (n ≤ℤ high))
@@ -26,3 +34,35 @@ module _ (n : Scientific) (places : ℕ) (low high units : ℤ) (is : scaled_wit
 
   pub at_most : units ≤ℤ high
   at_most = units_within.1
+
+-- a whole number in its range
+passed : (range : WholeRange) (n : ℕ) → is_whole_in range n ≡ true → (range.least ≤ n) × (n ≤ range.most)
+passed range n is = let parts = and_parts _ _ is in (leb-true range.least n parts.0, leb-true n range.most parts.1)
+
+taken : {X : Type 0} (P : X → Type 0) (within : Bool) (x : X) (kind : ℕ) → (within ≡ true → P x) → IfOk (if within then Ok x else Err kind) P
+taken P true x kind p = p refl
+taken P false x kind p = tt
+
+whole-within : (range : WholeRange) (r : Result ℕ NotWhole) → IfOk (whole_within range r) (λ n. (range.least ≤ n) × (n ≤ range.most))
+whole-within range (Err e) = tt
+whole-within range (Ok n) = taken (λ n. (range.least ≤ n) × (n ≤ range.most)) (is_whole_in range n) n OUT_OF_RANGE (passed range n)
+
+pub whole-holds : (range : WholeRange) (word : List ℕ) → IfOk (whole_in range word) (λ n. (range.least ≤ n) × (n ≤ range.most))
+whole-holds range word = whole-within range (whole_number word)
+
+scaled-from : (range : ScaledRange) (r : Result Scientific DecimalFault)
+    → IfOk (scaled_from range r) (λ n. (range.least ≤ℤ n) × (n ≤ℤ range.most))
+scaled-from range (Err e) = tt
+scaled-from range (Ok n) = in_bounds (scaled_value n range.places) range.least range.most
+
+-- a decimal in its range
+pub scaled-holds : (range : ScaledRange) (word : List ℕ) → IfOk (scaled_in range word) (λ n. (range.least ≤ℤ n) × (n ≤ℤ range.most))
+scaled-holds range word = scaled-from range (decimal_of word)
+
+up_to-from : (power : ℕ) (r : Result Scientific DecimalFault) → IfOk (up_to_from power r) (λ n. is_up_to power n ≡ true)
+up_to-from power (Err e) = tt
+up_to-from power (Ok n) = taken (λ n. is_up_to power n ≡ true) (is_up_to power n) n OUT_OF_RANGE (λ is. is)
+
+-- a decimal up to a power of ten
+pub up_to-holds : (power : ℕ) (word : List ℕ) → IfOk (up_to power word) (λ n. is_up_to power n ≡ true)
+up_to-holds power word = up_to-from power (decimal_of word)

@@ -45,13 +45,18 @@ pub record GasValues : Type 0 where
   pub energies : List ℤ
   pub fractions : List Scientific
 
+-- the gas species of three lists
+abbrev pub gas_with : Result (List NameWord) LineFault → Result (List ℤ) LineFault → Result (List Scientific) LineFault → Result GasValues LineFault
+gas_with names energies fractions =
+    value_map (λ lists. record { names = lists.0.0; energies = lists.0.1; fractions = lists.1 }) (both (both names energies) fractions)
+
 -- the lists of so many gas species
 abbrev pub gas_lists : Option ℕ → BlockLines → Result GasValues LineFault
 gas_lists count block =
-    value_map (λ lists. record { names = lists.0.0; energies = lists.0.1; fractions = lists.1 })
-    (both
-    (both (names_in count GasSpecsNames block) (numbers_in (scaled_in ENERGY) count GasEnergies block))
-    (numbers_in (up_to FRACTION.power) count GasMolarFracs block))
+    gas_with
+    (names_in count GasSpecsNames block)
+    (numbers_in (scaled_in ENERGY) count GasEnergies block)
+    (numbers_in (up_to FRACTION.power) count GasMolarFracs block)
 
 -- the molecular weights, which are used for nothing
 abbrev pub weights_in : Option ℕ → BlockLines → Result (List Scientific) LineFault
@@ -68,11 +73,13 @@ pub record SurfaceValues : Type 0 where
   pub names : List NameWord
   pub dentates : List ℕ
 
+-- the surface species of two lists
+abbrev pub surface_with : Result (List NameWord) LineFault → Result (List ℕ) LineFault → Result SurfaceValues LineFault
+surface_with names dentates = value_map (λ lists. record { names = lists.0; dentates = lists.1 }) (both names dentates)
+
 -- the lists of so many surface species
 abbrev pub surface_lists : Option ℕ → BlockLines → Result SurfaceValues LineFault
-surface_lists count block =
-    value_map (λ lists. record { names = lists.0; dentates = lists.1 })
-    (both (names_in count SurfSpecsNames block) (numbers_in (whole_in DENTATES) count SurfSpecsDent block))
+surface_lists count block = surface_with (names_in count SurfSpecsNames block) (numbers_in (whole_in DENTATES) count SurfSpecsDent block)
 
 -- the surface species of the file
 abbrev pub surface_in : BlockLines → Result SurfaceValues LineFault

@@ -90,6 +90,7 @@ fn names_of(alloc: Global, words: &[Span], line: u32) -> Result<Vec<Name>, OutOf
 }
 
 /// The names that were found on a line.
+#[tactic(auto, using(deck_shape::proofs::NameLists::names_at))]
 fn named(
     alloc: Global,
     bytes: &[u8],

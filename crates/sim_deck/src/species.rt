@@ -1,11 +1,12 @@
 //! The species of the simulation file.
 
-ghost use Rattle.std.specs.Prelude.{◌≡◌, IfOk};
+ghost use Rattle.std.specs.Prelude.{◌≡◌, ℕ, IfOk, List, map};
 ghost use Rattle.deck_shape.specs.Blocks.{block_at};
-ghost use Rattle.deck_words.specs.Faults.{both as both_of, value_map};
+ghost use Rattle.deck_shape.specs.Names.{name_at};
+ghost use Rattle.deck_words.specs.Faults.{value_map};
 ghost use Rattle.deck_values.specs.Numbers.{any_decimal};
 ghost use Rattle.std.specs.Result.{result_err};
-ghost use Rattle.sim_deck.specs.Species.{count_in, gas_in, gas_lists, surface_in, surface_lists, weights_in};
+ghost use Rattle.sim_deck.specs.Species.{count_in, gas_in, gas_lists, gas_with, surface_in, surface_lists, surface_with, weights_in};
 ghost use Rattle.sim_deck.specs.Views.{gas_at, surface_at};
 
 use crate::lines::{list_or, names_in, numbers_in, value_or};
@@ -41,12 +42,13 @@ fn count_in(bytes: &[u8], block: &Block, keyword: Keyword) -> Result<u64, LineFa
 }
 
 /// The gas species of these lists.
-fn gas_of(
+fn gas_with(
     names: Result<Vec<Name>, LineFault>,
     energies: Result<Vec<i64>, LineFault>,
     fractions: Result<Vec<Decimal>, LineFault>,
 ) -> Result<Gas, LineFault>
-    ensures { result ≡ value_map (λ lists. record { names = lists.0.0; energies = lists.0.1; fractions = lists.1 }) (both_of (both_of names.entry energies.entry) fractions.entry) }
+    ensures { (text : List ℕ) → value_map (gas_at text) result
+        ≡ gas_with (value_map (λ list. map (name_at text) list.items) names) (value_map (λ list. list.items) energies) (value_map (λ list. list.items) fractions) }
 {
     let ((names, energies), fractions) = both(both(names, energies), fractions)?;
     Ok(Gas {
@@ -75,7 +77,7 @@ fn gas_lists(
         block,
         Keyword::GasMolarFracs,
     )?;
-    Ok(gas_of(names, energies, fractions))
+    Ok(gas_with(names, energies, fractions))
 }
 
 /// The fault of the molecular weights, which are used for nothing.
@@ -114,11 +116,12 @@ pub(crate) fn gas_in(
 }
 
 /// The surface species of these lists.
-fn surface_of(
+fn surface_with(
     names: Result<Vec<Name>, LineFault>,
     dentates: Result<Vec<u8>, LineFault>,
 ) -> Result<Surface, LineFault>
-    ensures { result ≡ value_map (λ lists. record { names = lists.0; dentates = lists.1 }) (both_of names.entry dentates.entry) }
+    ensures { (text : List ℕ) → value_map (surface_at text) result
+        ≡ surface_with (value_map (λ list. map (name_at text) list.items) names) (value_map (λ list. list.items) dentates) }
 {
     let (names, dentates) = both(names, dentates)?;
     Ok(Surface { names, dentates })
@@ -142,7 +145,7 @@ fn surface_lists(
         block,
         Keyword::SurfSpecsDent,
     )?;
-    Ok(surface_of(names, dentates))
+    Ok(surface_with(names, dentates))
 }
 
 /// The surface species.
