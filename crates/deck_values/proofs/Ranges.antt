@@ -1,7 +1,8 @@
 -- what the readings of numbers give is in their ranges
-use Rattle.std.proofs.Common.{◌≡◌, ◌≤◌, ◌≤ℤ◌, ◌||◌, List, ap, ℕ, ℤ, Bool, true, false, IfOk, Err, Ok, Result, T, refl, sym, subst, if◌then◌else◌, not}
+use Rattle.std.proofs.Common.{◌≡◌, ◌≤◌, ◌≤ℤ◌, ◌||◌, arith, negsuc, pos, unsigned_abs, List, ap, ℕ, ℤ, Bool, true, false, IfOk, Err, Ok, Result, T, refl, sym, subst, if◌then◌else◌, not}
 use Rattle.std.specs.Int.Signed.{lt_z, lt_z_no}
-use Rattle.std.proofs.lemmas.Result.{IfOk-at_ok}
+use Rattle.std.proofs.lemmas.Int.{ints}
+use Rattle.std.proofs.lemmas.Result.{IfOk-at_ok, IfOk-weaker}
 use Rattle.dec_text.specs.Decimals.{Scientific}
 use Rattle.dec_text.specs.Scaled.{scaled_value, scaled_within, within_bounds}
 use Rattle.dec_text.specs.Decimals.{decimal_of}
@@ -9,7 +10,8 @@ use Rattle.dec_text.specs.Wholes.{whole_number}
 use Rattle.dec_text.specs.declared.faults.DecimalFault.{DecimalFault}
 use Rattle.dec_text.specs.declared.faults.NotWhole.{NotWhole}
 use Rattle.deck_words.specs.declared.kind.TheConstants.{OUT_OF_RANGE}
-use Rattle.deck_values.specs.Numbers.{is_up_to, is_whole_in, scaled_from, scaled_in, scaled_or_kind, up_to, up_to_from, whole_in, whole_within}
+use Rattle.deck_values.proofs.Values.{value_map-holds}
+use Rattle.deck_values.specs.Numbers.{amount_in, is_up_to, is_whole_in, scaled_from, scaled_in, scaled_or_kind, up_to, up_to_from, whole_in, whole_within}
 use Rattle.deck_values.specs.declared.number.ScaledRange.{ScaledRange}
 use Rattle.deck_values.specs.declared.number.WholeRange.{WholeRange}
 use Rattle.std.proofs.lemmas.Bool.{and_parts, leb-true}
@@ -66,3 +68,16 @@ up_to-from power (Ok n) = taken (λ n. is_up_to power n ≡ true) (is_up_to powe
 -- a decimal up to a power of ten
 pub up_to-holds : (power : ℕ) (word : List ℕ) → IfOk (up_to power word) (λ n. is_up_to power n ≡ true)
 up_to-holds power word = up_to-from power (decimal_of word)
+
+amount-within : (range : ScaledRange) (n : ℤ) → pos 0 ≤ℤ range.least → (range.least ≤ℤ n) × (n ≤ℤ range.most)
+    → (range.least ≤ℤ pos (unsigned_abs n)) × (pos (unsigned_abs n) ≤ℤ range.most)
+amount-within range (pos k) positive within = within
+amount-within range (negsuc k) positive within = absurd (let least = within.0 in omega (arith, ints))
+
+-- a size in its range
+pub amount-holds : (range : ScaledRange) (word : List ℕ) → pos 0 ≤ℤ range.least
+    → IfOk (amount_in range word) (λ n. (range.least ≤ℤ pos n) × (pos n ≤ℤ range.most))
+amount-holds range word positive =
+    value_map-holds (λ n. (range.least ≤ℤ pos n) × (pos n ≤ℤ range.most)) unsigned_abs (scaled_in range word)
+    (IfOk-weaker (scaled_in range word) _ (λ n. (range.least ≤ℤ pos (unsigned_abs n)) × (pos (unsigned_abs n) ≤ℤ range.most))
+    (λ n within. amount-within range n positive within) (scaled-holds range word))

@@ -84,9 +84,10 @@ list_on-holds P read count line words p =
 no_members : (count : ℕ) → nat_lt 0 count ≡ false → 0 ≡ count
 no_members count none = grind (arith, nat_tests)
 
-pub absent_list-holds : {X : Type 0} (P : X → Type 0) (count line : ℕ) → IfOk (absent_list {X = X} (Some count) line) (AreSo P count)
-absent_list-holds P count line =
-    unless-holds (AreSo P count) (has_members (Some count)) line LIST_LENGTH (Ok []) (λ none. (no_members count none, tt))
+-- a list that is absent is empty, and has no member to have
+pub absent_list-holds : {X : Type 0} (P : List X → Type 0) (count line : ℕ) → (0 ≡ count → P []) → IfOk (absent_list {X = X} (Some count) line) P
+absent_list-holds P count line p =
+    unless-holds P (has_members (Some count)) line LIST_LENGTH (Ok []) (λ none. p (no_members count none))
 
 -- so many names, which differ and may be those of species
 pub record AreSpecies (count : ℕ) (names : List (List ℕ)) : Type 0 where

@@ -1,1 +1,3 @@
 pub mod LongWords
+pub mod SoundParts
+pub mod SoundPlans

@@ -1,0 +1,144 @@
+-- the plan of a run that is read, and its conditions, are in their ranges
+use Rattle.std.proofs.Common.{◌≡◌, ◌≤◌, ◌<◌, ◌^◌, arith, ℕ, true, Bool, false, List, [], ◌∷◌, IfOk, IfSome, Option, None, Some, Result, Ok, Err}
+use Rattle.std.proofs.Common.{codes, if◌then◌else◌, refl}
+use Rattle.std.specs.List.{find}
+use Rattle.std.specs.Option.{option_map_or}
+use Rattle.std.proofs.lemmas.Int.{ints}
+use Rattle.std.proofs.lemmas.Result.{IfOk-weaker}
+use Rattle.dec_text.specs.Decimals.{Scientific}
+use Rattle.deck_shape.specs.BlockValues.{line_value_or, missing_word, value_or}
+use Rattle.deck_shape.specs.Blocks.{BlockLines, ItemLines, has_keyword}
+use Rattle.deck_shape.specs.WordLines.{words_of}
+use Rattle.deck_values.proofs.Ranges.{amount-holds, up_to-holds, whole-holds}
+use Rattle.deck_values.proofs.Values.{at_line-holds, both-holds, one-holds, value_map-holds}
+use Rattle.deck_values.specs.Numbers.{amount_in, is_up_to, up_to, whole_in}
+use Rattle.deck_values.specs.Words.{one}
+use Rattle.deck_words.specs.Faults.{both, value_map}
+use Rattle.deck_words.specs.Tables.{same_word}
+use Rattle.deck_words.specs.declared.fault.LineFault.{LineFault}
+use Rattle.deck_words.specs.declared.keyword.Keyword.{Keyword}
+use Rattle.deck_words.specs.declared.keyword.Keyword.TheVariants.{MaxSteps, MaxTime, Pressure, ProcessStatistics, RandomSeed}
+use Rattle.deck_words.specs.declared.keyword.Keyword.TheVariants.{Snapshots, SpeciesNumbers, Temperature}
+use Rattle.kmc_base.specs.declared.limits.TheConstants.{END_OF_TIME, MAX_EVENTS}
+use Rattle.sim_deck.specs.Samplings.{is_on, sampling_of}
+use Rattle.sim_deck.specs.Soundness.{IsPeriod, IsSoundPlan}
+use Rattle.sim_deck.specs.Values.{conditions_in, event_limit, event_limit_in, limits_in, or_infinity, plan_in, pressure_in, sampling_in, samplings_in}
+use Rattle.sim_deck.specs.Values.{seed_in, temperature_in, time_limit, time_limit_in}
+use Rattle.sim_deck.specs.declared.part.Plan.{Plan}
+use Rattle.sim_deck.specs.declared.part.Sampling.{Sampling}
+use Rattle.sim_deck.specs.declared.part.Sampling.TheVariants.{Off, Event, Time}
+use Rattle.sim_deck.specs.declared.ranges.TheConstants.{ANY_WHOLE, EVENT_LIMIT, EVENT_PERIOD, PRESSURE, TEMPERATURE, TIME_LIMIT, TIME_PERIOD}
+
+item-holds : {X : Type 0} (P : X → Type 0) (absent : Result X LineFault) (read : ItemLines → Result X LineFault) (item : Option ItemLines)
+    → IfOk absent P → ((it : ItemLines) → IfOk (read it) P) → IfOk (option_map_or read item absent) P
+item-holds P absent read None p q = p
+item-holds P absent read (Some item) p q = q item
+
+-- what holds of the value of each line, and of that of none
+pub line_value_or-holds : {X : Type 0} (P : X → Type 0) (absent : Result X LineFault) (read : ItemLines → Result X LineFault)
+    (keyword : Keyword) (items : List ItemLines) → IfOk absent P → ((item : ItemLines) → IfOk (read item) P)
+    → IfOk (line_value_or absent read keyword items) P
+line_value_or-holds P absent read keyword items p q = item-holds P absent read (find (has_keyword keyword) items) p q
+
+pub value_or-holds : {X : Type 0} (P : X → Type 0) (absent : Result X LineFault) (read : List (List ℕ) → Result X ℕ)
+    (keyword : Keyword) (items : List ItemLines) → IfOk absent P → ((words : List (List ℕ)) → IfOk (read words) P)
+    → IfOk (value_or absent read keyword items) P
+value_or-holds P absent read keyword items p q =
+    line_value_or-holds P absent _ keyword items p (λ item. at_line-holds P item.line.number (read (words_of item)) (q (words_of item)))
+
+-- the same of the one word behind a keyword
+pub word-holds : {X : Type 0} (P : X → Type 0) (absent : Result X LineFault) (read : List ℕ → Result X ℕ)
+    (keyword : Keyword) (items : List ItemLines) → IfOk absent P → ((word : List ℕ) → IfOk (read word) P)
+    → IfOk (value_or absent (one read) keyword items) P
+word-holds P absent read keyword items p q = value_or-holds P absent (one read) keyword items p (λ words. one-holds P read words q)
+
+if-holds : {X : Type 0} (P : X → Type 0) (b : Bool) (r s : Result X ℕ) → IfOk r P → IfOk s P → IfOk (if b then r else s) P
+if-holds P true r s p q = p
+if-holds P false r s p q = q
+
+or_infinity-holds : {X : Type 0} (P : X → Type 0) (infinite : X) (read : List ℕ → Result X ℕ) (word : List ℕ)
+    → P infinite → IfOk (read word) P → IfOk (or_infinity infinite read word) P
+or_infinity-holds P infinite read word p q = if-holds P (same_word (codes "infinity") word) (Ok infinite) (read word) p q
+
+period-holds : (word : List ℕ) → IfOk (amount_in TIME_PERIOD word) (λ d. (1 ≤ d) × (d ≤ END_OF_TIME))
+period-holds word = IfOk-weaker (amount_in TIME_PERIOD word) _ _ (λ d within. let a = within.0 in let b = within.1 in (omega (arith, ints), omega (arith, ints)))
+    (amount-holds TIME_PERIOD word (omega (arith, ints)))
+
+sampling-holds : (words : List (List ℕ)) → IfOk (sampling_of words) IsPeriod
+sampling-holds [] = tt
+sampling-holds (a ∷ []) = if-holds IsPeriod (same_word (codes "off") a) (Ok Off) _ tt tt
+sampling-holds (a ∷ b ∷ []) = if-holds IsPeriod (is_on (codes "event") a b) (Ok (Event 1)) _ (omega arith, omega arith) tt
+sampling-holds (a ∷ b ∷ c ∷ []) =
+    if-holds IsPeriod (is_on (codes "event") a b) _ _
+    (value_map-holds IsPeriod (λ n. Event n) (whole_in EVENT_PERIOD c) (whole-holds EVENT_PERIOD c))
+    (if-holds IsPeriod (is_on (codes "time") a b) _ _ (value_map-holds IsPeriod (λ d. Time d) (amount_in TIME_PERIOD c) (period-holds c)) tt)
+sampling-holds (a ∷ b ∷ c ∷ d ∷ words) = tt
+
+sampling_in-holds : (keyword : Keyword) (block : BlockLines) → IfOk (sampling_in keyword block) IsPeriod
+sampling_in-holds keyword block = value_or-holds IsPeriod (Ok Off) sampling_of keyword block.items tt sampling-holds
+
+seed-holds : (block : BlockLines) → IfOk (seed_in block) (λ n. n < 2 ^ 64)
+seed-holds block =
+    word-holds (λ n. n < 2 ^ 64) (Ok 0) (whole_in ANY_WHOLE) RandomSeed block.items (omega arith)
+    (λ word. IfOk-weaker (whole_in ANY_WHOLE word) _ _ (λ n within. let most = within.1 in omega arith) (whole-holds ANY_WHOLE word))
+
+events-hold : (block : BlockLines) → IfOk (event_limit_in block) (λ n. n ≤ MAX_EVENTS)
+events-hold block =
+    word-holds (λ n. n ≤ MAX_EVENTS) (Ok MAX_EVENTS) event_limit MaxSteps block.items (omega arith)
+    (λ word. or_infinity-holds (λ n. n ≤ MAX_EVENTS) MAX_EVENTS (whole_in EVENT_LIMIT) word (omega arith)
+    (IfOk-weaker (whole_in EVENT_LIMIT word) _ _ (λ n within. within.1) (whole-holds EVENT_LIMIT word)))
+
+abbrev IsLimit : Option ℕ → Type 0
+IsLimit limit = IfSome limit (λ t. t ≤ END_OF_TIME)
+
+time-holds : (block : BlockLines) → IfOk (time_limit_in block) IsLimit
+time-holds block =
+    word-holds IsLimit (Ok None) time_limit MaxTime block.items tt
+    (λ word. or_infinity-holds IsLimit None (λ w. value_map (λ t. Some t) (amount_in TIME_LIMIT w)) word tt
+    (value_map-holds IsLimit (λ t. Some t) (amount_in TIME_LIMIT word)
+    (IfOk-weaker (amount_in TIME_LIMIT word) _ (λ t. t ≤ END_OF_TIME) (λ t within. let most = within.1 in omega (arith, ints))
+    (amount-holds TIME_LIMIT word (omega (arith, ints))))))
+
+plan-holds : (block : BlockLines) → IfOk (plan_in block) IsSoundPlan
+plan-holds block =
+    let limits = both-holds (λ found. (found.0 < 2 ^ 64) × (found.1 ≤ MAX_EVENTS)) IsLimit _ _
+    (both-holds (λ n. n < 2 ^ 64) (λ n. n ≤ MAX_EVENTS) (seed_in block) (event_limit_in block) (seed-holds block) (events-hold block))
+    (time-holds block) in
+    let samplings = both-holds (λ found. IsPeriod found.0 × IsPeriod found.1) IsPeriod _ _
+    (both-holds IsPeriod IsPeriod (sampling_in Snapshots block) (sampling_in ProcessStatistics block)
+    (sampling_in-holds Snapshots block) (sampling_in-holds ProcessStatistics block))
+    (sampling_in-holds SpeciesNumbers block) in
+    value_map-holds IsSoundPlan _ (both (limits_in block) (samplings_in block))
+    (IfOk-weaker (both (limits_in block) (samplings_in block)) _ _
+    (λ parts all. record {
+      seed = all.0.0.0;
+      max_steps = all.0.0.1;
+      max_time = all.0.1;
+      history = all.1.0.0;
+      procstat = all.1.0.1;
+      specnum = all.1.1;
+    })
+    (both-holds _ _ (limits_in block) (samplings_in block) limits samplings))
+
+-- a temperature and a pressure in their ranges
+abbrev pub AreConditions : Plan × (ℕ × Scientific) → Type 0
+AreConditions found =
+    IsSoundPlan found.0 × ((1 ≤ found.1.0) × (found.1.0 ≤ 10000000)) × (is_up_to 9 found.1.1 ≡ true)
+
+temperature-holds : (block : BlockLines) → IfOk (temperature_in block) (λ t. (1 ≤ t) × (t ≤ 10000000))
+temperature-holds block =
+    word-holds (λ t. (1 ≤ t) × (t ≤ 10000000)) (missing_word block.end_line) (amount_in TEMPERATURE) Temperature block.items tt
+    (λ word. IfOk-weaker (amount_in TEMPERATURE word) _ _
+    (λ t within. let a = within.0 in let b = within.1 in (omega (arith, ints), omega (arith, ints)))
+    (amount-holds TEMPERATURE word (omega (arith, ints))))
+
+pressure-holds : (block : BlockLines) → IfOk (pressure_in block) (λ n. is_up_to 9 n ≡ true)
+pressure-holds block =
+    word-holds (λ n. is_up_to 9 n ≡ true) (missing_word block.end_line) (up_to PRESSURE.power) Pressure block.items tt (up_to-holds PRESSURE.power)
+
+pub conditions-hold : (block : BlockLines) → IfOk (conditions_in block) AreConditions
+conditions-hold block =
+    IfOk-weaker (conditions_in block) _ AreConditions (λ found all. (all.0, all.1.0, all.1.1))
+    (both-holds IsSoundPlan (λ found. ((1 ≤ found.0) × (found.0 ≤ 10000000)) × (is_up_to 9 found.1 ≡ true)) (plan_in block) _ (plan-holds block)
+    (both-holds (λ t. (1 ≤ t) × (t ≤ 10000000)) (λ n. is_up_to 9 n ≡ true) (temperature_in block) (pressure_in block)
+    (temperature-holds block) (pressure-holds block)))
