@@ -1,5 +1,5 @@
 -- what holds of the values of readings, by what holds of the values of their parts
-use Rattle.std.proofs.Common.{◌≡◌, ◌≤◌, ◌==◌, ap, suc, refl, subst, ◌∙◌, arith, ℕ, Bool, true, false, not, List, [], ◌∷◌, length, map, nat_lt, IfOk, Option, None, Some}
+use Rattle.std.proofs.Common.{◌≡◌, ◌==◌, ap, suc, refl, subst, ◌∙◌, arith, ℕ, Bool, true, false, not, List, [], ◌∷◌, length, map, nat_lt, IfOk, Option, None, Some}
 use Rattle.std.proofs.Common.{Result, Ok, Err}
 use Rattle.std.specs.List.{AllByRecursion, list_any}
 use Rattle.std.specs.Result.{result_err, result_ok}
@@ -11,7 +11,7 @@ use Rattle.deck_words.specs.Faults.{all_of, at_line, both, value_map, with_fault
 use Rattle.deck_words.specs.declared.fault.LineFault.{LineFault}
 use Rattle.deck_words.specs.declared.kind.TheConstants.{BAD_NAME, LIST_LENGTH, REPEATED_NAME}
 use Rattle.deck_values.specs.Lists.{absent_list, fault_if, has_members, has_other_length, list_on}
-use Rattle.deck_values.specs.Names.{bytes_of, is_bad_name, names_on, names_repeat, species_on}
+use Rattle.deck_values.specs.Names.{bytes_of, is_bad_name, names_repeat, species_on}
 use Rattle.deck_values.specs.Words.{one}
 
 pub both-holds : {X Y : Type 0} (P : X → Type 0) (Q : Y → Type 0) (a : Result X LineFault) (b : Result Y LineFault)

@@ -1,5 +1,5 @@
 -- The lists of the input files.
-use Rattle.std.specs.Prelude.{ℕ, ◌==◌, Bool, false, not, List, [], length, map, Option, None, Some, Result, Ok, Err, if◌then◌else◌, nat_lt}
+use Rattle.std.specs.Prelude.{ℕ, ◌==◌, Bool, false, not, List, [], length, map, Option, None, Some, Result, Ok, if◌then◌else◌, nat_lt}
 use Rattle.deck_words.specs.Faults.{all_of, at_line, with_fault}
 use Rattle.deck_words.specs.declared.fault.LineFault.{LineFault}
 use Rattle.deck_words.specs.declared.kind.TheConstants.{LIST_LENGTH}

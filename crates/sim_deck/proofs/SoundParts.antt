@@ -1,6 +1,6 @@
 -- the values of a file that is read are sound
-use Rattle.std.proofs.Common.{◌≡◌, ◌∙◌, ◌≤◌, ap, arith, length, map, subst, sym, true, ℕ, ℤ, pos, negsuc, unsigned_abs, ◌≤ℤ◌, neg_ℤ, List, IfOk, Option, Some, Result, Ok, refl}
-use Rattle.std.specs.Result.{result_err, result_ok}
+use Rattle.std.proofs.Common.{◌≡◌, ◌∙◌, ◌≤◌, arith, length, map, subst, sym, true, ℕ, ℤ, pos, negsuc, unsigned_abs, ◌≤ℤ◌, neg_ℤ, List, IfOk, Some, Result, Ok, refl}
+use Rattle.std.specs.Result.{result_err}
 use Rattle.std.proofs.lemmas.List.{length-map}
 use Rattle.std.proofs.lemmas.List.Elements.{All-from_recursion}
 use Rattle.std.proofs.lemmas.Int.{ints}
@@ -15,7 +15,7 @@ use Rattle.deck_values.proofs.Ranges.{scaled-holds, up_to-holds, whole-holds}
 use Rattle.deck_values.proofs.Values.{AreSo, AreSpecies, absent_list-holds, both-holds, list_on-holds, species_on-holds, stated-holds}
 use Rattle.deck_values.proofs.Values.{value_map-holds, with_fault-holds}
 use Rattle.deck_values.specs.Lists.{absent_list, list_on}
-use Rattle.deck_values.specs.Names.{bytes_of, species_on}
+use Rattle.deck_values.specs.Names.{species_on}
 use Rattle.deck_values.specs.Numbers.{is_up_to, scaled_in, up_to, whole_in}
 use Rattle.deck_words.specs.Faults.{both, with_fault}
 use Rattle.deck_words.specs.declared.keyword.Keyword.{Keyword}

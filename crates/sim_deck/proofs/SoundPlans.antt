@@ -1,6 +1,6 @@
 -- the plan of a run that is read, and its conditions, are in their ranges
-use Rattle.std.proofs.Common.{◌≡◌, ◌≤◌, ◌<◌, ◌^◌, arith, ℕ, true, Bool, false, List, [], ◌∷◌, IfOk, IfSome, Option, None, Some, Result, Ok, Err}
-use Rattle.std.proofs.Common.{codes, if◌then◌else◌, refl}
+use Rattle.std.proofs.Common.{◌≡◌, ◌≤◌, ◌<◌, ◌^◌, arith, ℕ, true, Bool, false, List, [], ◌∷◌, IfOk, IfSome, Option, None, Some, Result, Ok}
+use Rattle.std.proofs.Common.{codes, if◌then◌else◌}
 use Rattle.std.specs.List.{find}
 use Rattle.std.specs.Option.{option_map_or}
 use Rattle.std.proofs.lemmas.Int.{ints}
@@ -25,7 +25,6 @@ use Rattle.sim_deck.specs.Soundness.{IsPeriod, IsSoundPlan}
 use Rattle.sim_deck.specs.Values.{conditions_in, event_limit, event_limit_in, limits_in, or_infinity, plan_in, pressure_in, sampling_in, samplings_in}
 use Rattle.sim_deck.specs.Values.{seed_in, temperature_in, time_limit, time_limit_in}
 use Rattle.sim_deck.specs.declared.part.Plan.{Plan}
-use Rattle.sim_deck.specs.declared.part.Sampling.{Sampling}
 use Rattle.sim_deck.specs.declared.part.Sampling.TheVariants.{Off, Event, Time}
 use Rattle.sim_deck.specs.declared.ranges.TheConstants.{ANY_WHOLE, EVENT_LIMIT, EVENT_PERIOD, PRESSURE, TEMPERATURE, TIME_LIMIT, TIME_PERIOD}
 

@@ -5,7 +5,7 @@ use Rattle.dec_text.specs.Spans.{run_at}
 use Rattle.deck_words.specs.Faults.{value_map, with_fault}
 use Rattle.deck_words.specs.declared.kind.TheConstants.{LIST_LENGTH, REPEATED_NAME}
 use Rattle.deck_values.proofs.NameFaults.{with_fault-map}
-use Rattle.deck_values.specs.Lists.{fault_if, has_other_length, length_fault}
+use Rattle.deck_values.specs.Lists.{fault_if, has_other_length}
 use Rattle.deck_values.specs.Names.{bytes_of, names_repeat, repeat_fault}
 use Rattle.deck_values.proofs.name.names_on.Goals as goal
 

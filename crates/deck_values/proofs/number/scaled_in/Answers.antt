@@ -1,4 +1,4 @@
-use Rattle.std.proofs.Common.{◌≤ℤ◌, ◌≡◌, ◌∙◌, Ok, rules, sym}
+use Rattle.std.proofs.Common.{◌≤ℤ◌, ◌≡◌, ◌∙◌, rules, sym}
 use Rattle.dec_text.specs.Scaled.{scaled_within}
 use Rattle.deck_values.proofs.Ranges.{at_least, at_most}
 use Rattle.deck_values.proofs.number.scaled_in.Goals as goal
