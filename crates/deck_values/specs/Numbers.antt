@@ -10,6 +10,7 @@ use Rattle.dec_text.specs.declared.faults.NotWhole.{NotWhole}
 use Rattle.dec_text.specs.declared.faults.OutOfRange.{OutOfRange}
 use Rattle.deck_words.specs.Faults.{value_map}
 use Rattle.deck_words.specs.declared.kind.TheConstants.{NOT_NUMBER, NOT_WHOLE, OUT_OF_RANGE}
+use Rattle.deck_values.specs.declared.number.Amount.{Amount}
 use Rattle.deck_values.specs.declared.number.ScaledRange.{ScaledRange}
 use Rattle.deck_values.specs.declared.number.WholeRange.{WholeRange}
 
@@ -81,3 +82,8 @@ pub record IsScaledRange (range : ScaledRange) : Type 0 where
   pub places : range.places ≤ 27
   pub least : neg_ℤ (pos (10 ^ 36)) ≤ℤ range.least
   pub most : range.most ≤ℤ pos (10 ^ 36)
+
+-- the same of a range that has no negative number
+pub record IsAmount (amount : Amount) : Type 0 where
+  pub range : IsScaledRange amount.range
+  pub positive : pos 0 ≤ℤ amount.range.least

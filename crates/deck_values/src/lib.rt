@@ -13,7 +13,7 @@ mod words;
 pub use list::{absent_list, list_on};
 pub use name::{names_on, species_on};
 pub use number::{
-    AnyDecimal, ScaledRange, UpTo, WholeRange, amount_in, any_decimal, is_up_to, scaled_in, up_to,
-    whole_in,
+    Amount, AnyDecimal, ScaledRange, UpTo, WholeRange, amount_in, any_decimal, is_up_to, scaled_in,
+    up_to, whole_in,
 };
 pub use words::{ReadWord, one};

@@ -1,7 +1,7 @@
 ghost use Rattle.std.specs.Prelude.{◌≡◌, ◌<◌, ◌≤◌, ◌≤ℤ◌, ◌*◌, ◌^◌, IfOk, nat_le, pos, true};
 ghost use Rattle.dec_text.specs.Decimals.{decimal_of};
 ghost use Rattle.dec_text.specs.Wholes.{whole_number};
-ghost use Rattle.deck_values.specs.Numbers.{IsScaledRange, amount_in, any_decimal, decimal_kind, is_at_most, is_up_to, is_whole_in, scaled_in, up_to, whole_in};
+ghost use Rattle.deck_values.specs.Numbers.{IsAmount, IsScaledRange, amount_in, any_decimal, decimal_kind, is_at_most, is_up_to, is_whole_in, scaled_in, up_to, whole_in};
 
 use crate::words::ReadWord;
 use dec_text::{Decimal, DecimalFault, read_decimal, read_whole};
@@ -25,6 +25,13 @@ pub struct ScaledRange {
     pub least: i128,
     /// The greatest number of units.
     pub most: i128,
+}
+
+/// A number in a range that has no negative number: its size is read.
+#[derive(Clone, Copy, Debug, PartialEq, Eq)]
+pub struct Amount {
+    /// The range.
+    pub range: ScaledRange,
 }
 
 /// The range of a decimal from 0 to `10^power`, its bounds included.
@@ -186,6 +193,18 @@ impl ReadWord for ScaledRange {
 
     fn read(&self, word: &[u8]) -> Result<i128, u8> {
         scaled_in(*self, word)
+    }
+}
+
+impl ReadWord for Amount {
+    type Value = u128;
+
+    ghost is_usable = { IsAmount };
+
+    ghost value_of = { λ amount. amount_in amount.range };
+
+    fn read(&self, word: &[u8]) -> Result<u128, u8> {
+        amount_in(self.range, word)
     }
 }
 

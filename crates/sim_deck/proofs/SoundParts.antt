@@ -20,14 +20,14 @@ use Rattle.deck_values.specs.Numbers.{is_up_to, scaled_in, up_to, whole_in}
 use Rattle.deck_words.specs.Faults.{both, with_fault}
 use Rattle.deck_words.specs.declared.keyword.Keyword.{Keyword}
 use Rattle.deck_words.specs.declared.keyword.Keyword.TheVariants.{GasEnergies, GasMolarFracs, GasSpecsNames, NGasSpecies}
-use Rattle.deck_words.specs.declared.keyword.Keyword.TheVariants.{NSurfSpecies, SurfSpecsDent, SurfSpecsNames}
+use Rattle.deck_words.specs.declared.keyword.Keyword.TheVariants.{NSurfSpecies, SurfSpecsDent, SurfSpecsNames, WallTime}
 use Rattle.kmc_base.specs.declared.limits.TheConstants.{MAX_DENTATES, MAX_ENERGY, MAX_SPECIES}
 use Rattle.sim_deck.proofs.SoundPlans.{AreConditions, conditions-hold, line_value_or-holds, word-holds}
 use Rattle.sim_deck.specs.Soundness.{AreNames, IsSoundPart}
 use Rattle.sim_deck.specs.Species.{GasValues, SurfaceValues, count_in, gas_in, gas_lists, names_in, names_on, numbers_in, surface_in}
 use Rattle.sim_deck.specs.Species.{surface_lists, weights_in}
-use Rattle.sim_deck.specs.Values.{conditions_in, part_of, wall_time_in}
-use Rattle.sim_deck.specs.declared.ranges.TheConstants.{DENTATES, ENERGY, FRACTION, SPECIES_COUNT}
+use Rattle.sim_deck.specs.Values.{conditions_in, limit_in, part_of}
+use Rattle.sim_deck.specs.declared.ranges.TheConstants.{ANY_WHOLE, DENTATES, ENERGY, FRACTION, SPECIES_COUNT}
 
 abbrev bytes_in : List NameWord → List (List ℕ)
 bytes_in names = map (λ name. name.word.bytes) names
@@ -132,7 +132,7 @@ sound_part block =
     let parts = both (conditions_in block) (both (gas_in block) (surface_in block)) in
     let all = both-holds AreConditions (λ found. AreGas found.0 × AreSurface found.1) (conditions_in block) _ (conditions-hold block)
     (both-holds AreGas AreSurface (gas_in block) (surface_in block) (gas-holds block) (surface-holds block)) in
-    with_fault-holds IsSoundPart (result_err (wall_time_in block)) _
+    with_fault-holds IsSoundPart (result_err (limit_in (whole_in ANY_WHOLE) WallTime block)) _
     (value_map-holds IsSoundPart _ parts
     (IfOk-weaker parts _ _
     (λ found are.

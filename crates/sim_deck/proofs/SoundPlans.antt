@@ -1,6 +1,6 @@
 -- the plan of a run that is read, and its conditions, are in their ranges
 use Rattle.std.proofs.Common.{◌≡◌, ◌≤◌, ◌<◌, ◌^◌, arith, ℕ, true, Bool, false, List, [], ◌∷◌, IfOk, IfSome, Option, None, Some, Result, Ok}
-use Rattle.std.proofs.Common.{codes, if◌then◌else◌}
+use Rattle.std.proofs.Common.{codes, unwrap_or, if◌then◌else◌}
 use Rattle.std.specs.List.{find}
 use Rattle.std.specs.Option.{option_map_or}
 use Rattle.std.proofs.lemmas.Int.{ints}
@@ -22,8 +22,8 @@ use Rattle.deck_words.specs.declared.keyword.Keyword.TheVariants.{Snapshots, Spe
 use Rattle.kmc_base.specs.declared.limits.TheConstants.{END_OF_TIME, MAX_EVENTS}
 use Rattle.sim_deck.specs.Samplings.{is_on, sampling_of}
 use Rattle.sim_deck.specs.Soundness.{IsPeriod, IsSoundPlan}
-use Rattle.sim_deck.specs.Values.{conditions_in, event_limit, event_limit_in, limits_in, or_infinity, plan_in, pressure_in, sampling_in, samplings_in}
-use Rattle.sim_deck.specs.Values.{seed_in, temperature_in, time_limit, time_limit_in}
+use Rattle.sim_deck.specs.Values.{conditions_in, limit_in, limits_in, or_infinity, plan_in, pressure_in, sampling_in, samplings_in}
+use Rattle.sim_deck.specs.Values.{seed_in, temperature_in}
 use Rattle.sim_deck.specs.declared.part.Plan.{Plan}
 use Rattle.sim_deck.specs.declared.part.Sampling.TheVariants.{Off, Event, Time}
 use Rattle.sim_deck.specs.declared.ranges.TheConstants.{ANY_WHOLE, EVENT_LIMIT, EVENT_PERIOD, PRESSURE, TEMPERATURE, TIME_LIMIT, TIME_PERIOD}
@@ -55,9 +55,13 @@ if-holds : {X : Type 0} (P : X → Type 0) (b : Bool) (r s : Result X ℕ) → I
 if-holds P true r s p q = p
 if-holds P false r s p q = q
 
-or_infinity-holds : {X : Type 0} (P : X → Type 0) (infinite : X) (read : List ℕ → Result X ℕ) (word : List ℕ)
-    → P infinite → IfOk (read word) P → IfOk (or_infinity infinite read word) P
-or_infinity-holds P infinite read word p q = if-holds P (same_word (codes "infinity") word) (Ok infinite) (read word) p q
+-- a limit, if there is one, is as each number that may be read
+limit-holds : (P : ℕ → Type 0) (read : List ℕ → Result ℕ ℕ) (keyword : Keyword) (block : BlockLines)
+    → ((word : List ℕ) → IfOk (read word) P) → IfOk (limit_in read keyword block) (λ limit. IfSome limit P)
+limit-holds P read keyword block p =
+    word-holds (λ limit. IfSome limit P) (Ok None) (or_infinity read) keyword block.items tt
+    (λ word. if-holds (λ limit. IfSome limit P) (same_word (codes "infinity") word) (Ok None) _ tt
+    (value_map-holds (λ limit. IfSome limit P) (λ number. Some number) (read word) (p word)))
 
 period-holds : (word : List ℕ) → IfOk (amount_in TIME_PERIOD word) (λ d. (1 ≤ d) × (d ≤ END_OF_TIME))
 period-holds word = IfOk-weaker (amount_in TIME_PERIOD word) _ _ (λ d within. let a = within.0 in let b = within.1 in (omega (arith, ints), omega (arith, ints)))
@@ -81,28 +85,30 @@ seed-holds block =
     word-holds (λ n. n < 2 ^ 64) (Ok 0) (whole_in ANY_WHOLE) RandomSeed block.items (omega arith)
     (λ word. IfOk-weaker (whole_in ANY_WHOLE word) _ _ (λ n within. let most = within.1 in omega arith) (whole-holds ANY_WHOLE word))
 
-events-hold : (block : BlockLines) → IfOk (event_limit_in block) (λ n. n ≤ MAX_EVENTS)
-events-hold block =
-    word-holds (λ n. n ≤ MAX_EVENTS) (Ok MAX_EVENTS) event_limit MaxSteps block.items (omega arith)
-    (λ word. or_infinity-holds (λ n. n ≤ MAX_EVENTS) MAX_EVENTS (whole_in EVENT_LIMIT) word (omega arith)
-    (IfOk-weaker (whole_in EVENT_LIMIT word) _ _ (λ n within. within.1) (whole-holds EVENT_LIMIT word)))
+abbrev IsEventLimit : ℕ → Type 0
+IsEventLimit n = n ≤ MAX_EVENTS
 
-abbrev IsLimit : Option ℕ → Type 0
-IsLimit limit = IfSome limit (λ t. t ≤ END_OF_TIME)
+event_limit-holds : (word : List ℕ) → IfOk (whole_in EVENT_LIMIT word) IsEventLimit
+event_limit-holds word = IfOk-weaker (whole_in EVENT_LIMIT word) _ IsEventLimit (λ n within. within.1) (whole-holds EVENT_LIMIT word)
 
-time-holds : (block : BlockLines) → IfOk (time_limit_in block) IsLimit
-time-holds block =
-    word-holds IsLimit (Ok None) time_limit MaxTime block.items tt
-    (λ word. or_infinity-holds IsLimit None (λ w. value_map (λ t. Some t) (amount_in TIME_LIMIT w)) word tt
-    (value_map-holds IsLimit (λ t. Some t) (amount_in TIME_LIMIT word)
-    (IfOk-weaker (amount_in TIME_LIMIT word) _ (λ t. t ≤ END_OF_TIME) (λ t within. let most = within.1 in omega (arith, ints))
-    (amount-holds TIME_LIMIT word (omega (arith, ints))))))
+abbrev IsTimeLimit : ℕ → Type 0
+IsTimeLimit t = t ≤ END_OF_TIME
+
+time_limit-holds : (word : List ℕ) → IfOk (amount_in TIME_LIMIT word) IsTimeLimit
+time_limit-holds word =
+    IfOk-weaker (amount_in TIME_LIMIT word) _ IsTimeLimit (λ t within. let most = within.1 in omega (arith, ints))
+    (amount-holds TIME_LIMIT word (omega (arith, ints)))
+
+events-hold : (limit : Option ℕ) → IfSome limit IsEventLimit → unwrap_or limit MAX_EVENTS ≤ MAX_EVENTS
+events-hold None holds = omega arith
+events-hold (Some n) holds = holds
 
 plan-holds : (block : BlockLines) → IfOk (plan_in block) IsSoundPlan
 plan-holds block =
-    let limits = both-holds (λ found. (found.0 < 2 ^ 64) × (found.1 ≤ MAX_EVENTS)) IsLimit _ _
-    (both-holds (λ n. n < 2 ^ 64) (λ n. n ≤ MAX_EVENTS) (seed_in block) (event_limit_in block) (seed-holds block) (events-hold block))
-    (time-holds block) in
+    let limits = both-holds (λ found. (found.0 < 2 ^ 64) × IfSome found.1 IsEventLimit) (λ limit. IfSome limit IsTimeLimit) _ _
+    (both-holds (λ n. n < 2 ^ 64) (λ limit. IfSome limit IsEventLimit) (seed_in block) (limit_in (whole_in EVENT_LIMIT) MaxSteps block)
+    (seed-holds block) (limit-holds IsEventLimit (whole_in EVENT_LIMIT) MaxSteps block event_limit-holds))
+    (limit-holds IsTimeLimit (amount_in TIME_LIMIT) MaxTime block time_limit-holds) in
     let samplings = both-holds (λ found. IsPeriod found.0 × IsPeriod found.1) IsPeriod _ _
     (both-holds IsPeriod IsPeriod (sampling_in Snapshots block) (sampling_in ProcessStatistics block)
     (sampling_in-holds Snapshots block) (sampling_in-holds ProcessStatistics block))
@@ -111,7 +117,7 @@ plan-holds block =
     (IfOk-weaker (both (limits_in block) (samplings_in block)) _ _
     (λ parts all. record {
       seed = all.0.0.0;
-      max_steps = all.0.0.1;
+      max_steps = events-hold parts.0.0.1 all.0.0.1;
       max_time = all.0.1;
       history = all.1.0.0;
       procstat = all.1.0.1;

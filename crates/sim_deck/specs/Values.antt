@@ -1,5 +1,5 @@
 -- The values of a simulation file: each is that of the one line that has its keyword, or the default where it has none.
-use Rattle.std.specs.Prelude.{ℕ, ℤ, List, map, Option, None, Some, Result, Ok, if◌then◌else◌, codes}
+use Rattle.std.specs.Prelude.{ℕ, ℤ, List, map, Option, None, Some, Result, Ok, if◌then◌else◌, codes, unwrap_or}
 use Rattle.std.specs.Result.{result_err}
 use Rattle.dec_text.specs.Decimals.{Scientific}
 use Rattle.deck_shape.specs.BlockValues.{missing_word, value_or}
@@ -58,50 +58,33 @@ temperature_in block = value_or (missing_word block.end_line) (one (amount_in TE
 abbrev pub pressure_in : BlockLines → Result Scientific LineFault
 pressure_in block = value_or (missing_word block.end_line) (one (up_to PRESSURE.power)) Pressure block.items
 
--- a number, or the word `infinity`
-abbrev pub or_infinity : {X : Type 0} → X → (List ℕ → Result X ℕ) → List ℕ → Result X ℕ
-or_infinity infinite read word = if same_word (codes "infinity") word then Ok infinite else read word
+-- a number, or the word `infinity`, which is None
+abbrev pub or_infinity : {X : Type 0} → (List ℕ → Result X ℕ) → List ℕ → Result (Option X) ℕ
+or_infinity read word = if same_word (codes "infinity") word then Ok None else value_map (λ number. Some number) (read word)
 
--- the greatest number of events; infinitely many are 2^40 - 1
-abbrev pub event_limit : List ℕ → Result ℕ ℕ
-event_limit word = or_infinity MAX_EVENTS (whole_in EVENT_LIMIT) word
-
-abbrev pub event_limit_in : BlockLines → Result ℕ LineFault
-event_limit_in block = value_or (Ok MAX_EVENTS) (one event_limit) MaxSteps block.items
-
--- the greatest time in attoseconds, which is written in s; None where there is none
-abbrev pub time_limit : List ℕ → Result (Option ℕ) ℕ
-time_limit word = or_infinity None (λ time. value_map (λ t. Some t) (amount_in TIME_LIMIT time)) word
-
-abbrev pub time_limit_in : BlockLines → Result (Option ℕ) LineFault
-time_limit_in block = value_or (Ok None) (one time_limit) MaxTime block.items
-
--- the wall time, which is used for nothing
-abbrev pub wall_time : List ℕ → Result (Option ℕ) ℕ
-wall_time word = or_infinity None (λ time. value_map (λ t. Some t) (whole_in ANY_WHOLE time)) word
-
-abbrev pub wall_time_in : BlockLines → Result (Option ℕ) LineFault
-wall_time_in block = value_or (Ok None) (one wall_time) WallTime block.items
+-- a limit; None where the file states none, or `infinity`
+abbrev pub limit_in : {X : Type 0} → (List ℕ → Result X ℕ) → Keyword → BlockLines → Result (Option X) LineFault
+limit_in read keyword block = value_or (Ok None) (one (or_infinity read)) keyword block.items
 
 -- when an output is sampled; never, where nothing is said
 abbrev pub sampling_in : Keyword → BlockLines → Result Sampling LineFault
 sampling_in keyword block = value_or (Ok Off) sampling_of keyword block.items
 
--- the seed of a run and its limits
-abbrev pub limits_in : BlockLines → Result ((ℕ × ℕ) × Option ℕ) LineFault
-limits_in block = both (both (seed_in block) (event_limit_in block)) (time_limit_in block)
+-- the seed of a run, the greatest number of its events, and its greatest time in attoseconds, which is written in s
+abbrev pub limits_in : BlockLines → Result ((ℕ × Option ℕ) × Option ℕ) LineFault
+limits_in block = both (both (seed_in block) (limit_in (whole_in EVENT_LIMIT) MaxSteps block)) (limit_in (amount_in TIME_LIMIT) MaxTime block)
 
 -- when the three outputs are sampled
 abbrev pub samplings_in : BlockLines → Result ((Sampling × Sampling) × Sampling) LineFault
 samplings_in block = both (both (sampling_in Snapshots block) (sampling_in ProcessStatistics block)) (sampling_in SpeciesNumbers block)
 
--- the plan of a run
+-- the plan of a run; infinitely many events are 2^40 - 1
 abbrev pub plan_in : BlockLines → Result Plan LineFault
 plan_in block =
     value_map
     (λ parts. record {
       seed = parts.0.0.0;
-      max_steps = parts.0.0.1;
+      max_steps = unwrap_or parts.0.0.1 MAX_EVENTS;
       max_time = parts.0.1;
       history = parts.1.0.0;
       procstat = parts.1.0.1;
@@ -129,7 +112,7 @@ part_with conditions gas surface =
     })
     (both conditions (both gas surface))
 
--- the values of the block of a simulation file, or its first fault
+-- the values of the block of a simulation file, or its first fault; the wall time is used for nothing
 abbrev pub part_of : BlockLines → Result SimValues LineFault
 part_of block =
-    with_fault (result_err (wall_time_in block)) (part_with (conditions_in block) (gas_in block) (surface_in block))
+    with_fault (result_err (limit_in (whole_in ANY_WHOLE) WallTime block)) (part_with (conditions_in block) (gas_in block) (surface_in block))

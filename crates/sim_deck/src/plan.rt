@@ -3,15 +3,16 @@
 ghost use Rattle.std.specs.Prelude.{◌≡◌};
 ghost use Rattle.deck_shape.specs.BlockValues.{missing_word};
 ghost use Rattle.deck_shape.specs.Blocks.{block_at};
-ghost use Rattle.sim_deck.specs.Values.{conditions_in, event_limit_in, limits_in, plan_in, pressure_in, sampling_in, samplings_in, seed_in, temperature_in, time_limit_in, wall_time_in};
+ghost use Rattle.sim_deck.specs.Values.{conditions_in, limit_in, limits_in, plan_in, pressure_in, sampling_in, samplings_in, seed_in, temperature_in};
 
 use crate::lines::value_or;
 use crate::part::{Plan, Sampling};
-use crate::ranges::{ANY_WHOLE, PRESSURE};
+use crate::ranges::{ANY_WHOLE, EVENT_LIMIT, PRESSURE, TIME_LIMIT};
 use crate::samplings::sampling_of;
-use crate::words::{EventLimit, Temperature, TimeLimit, WallTime};
+use crate::words::{OrInfinity, Temperature};
 use dec_text::Decimal;
 use deck_shape::{Block, Keyword};
+use deck_values::{Amount, ReadWord};
 use deck_words::kind::MISSING_WORD;
 use deck_words::{LineFault, at_line, both};
 use kmc_base::MAX_EVENTS;
@@ -23,25 +24,17 @@ fn seed_in(bytes: &[u8], block: &Block) -> Result<u64, LineFault>
     value_or(Ok(0), &ANY_WHOLE, bytes, block, Keyword::RandomSeed)
 }
 
-/// The greatest number of events.
-fn event_limit_in(bytes: &[u8], block: &Block) -> Result<u64, LineFault>
-    ensures { result ≡ event_limit_in (block_at bytes.now block.now) }
+/// A limit, if there is one.
+pub(crate) fn limit_in<R: ReadWord + Drop>(
+    number: R,
+    bytes: &[u8],
+    block: &Block,
+    keyword: Keyword,
+) -> Result<Option<R::Value>, LineFault>
+    requires { R.is_usable number }
+    ensures { result ≡ limit_in (R.value_of number) keyword (block_at bytes.now block.now) }
 {
-    value_or(Ok(MAX_EVENTS), &EventLimit, bytes, block, Keyword::MaxSteps)
-}
-
-/// The greatest time in attoseconds, if there is one.
-fn time_limit_in(bytes: &[u8], block: &Block) -> Result<Option<u128>, LineFault>
-    ensures { result ≡ time_limit_in (block_at bytes.now block.now) }
-{
-    value_or(Ok(None), &TimeLimit, bytes, block, Keyword::MaxTime)
-}
-
-/// The wall time, which is used for nothing.
-pub(crate) fn wall_time_in(bytes: &[u8], block: &Block) -> Result<Option<u64>, LineFault>
-    ensures { result ≡ wall_time_in (block_at bytes.now block.now) }
-{
-    value_or(Ok(None), &WallTime, bytes, block, Keyword::WallTime)
+    value_or(Ok(None), &OrInfinity { number }, bytes, block, keyword)
 }
 
 /// When an output is sampled.
@@ -55,12 +48,13 @@ fn sampling_in(bytes: &[u8], block: &Block, keyword: Keyword) -> Result<Sampling
 }
 
 /// The seed of a run and its limits.
-fn limits_in(bytes: &[u8], block: &Block) -> Result<((u64, u64), Option<u128>), LineFault>
+fn limits_in(bytes: &[u8], block: &Block) -> Result<((u64, Option<u64>), Option<u128>), LineFault>
     ensures { result ≡ limits_in (block_at bytes.now block.now) }
 {
-    let seed = seed_in(bytes, block);
-    let events = event_limit_in(bytes, block);
-    both(both(seed, events), time_limit_in(bytes, block))
+    let time = Amount { range: TIME_LIMIT };
+    let max_steps = limit_in(EVENT_LIMIT, bytes, block, Keyword::MaxSteps);
+    let max_time = limit_in(time, bytes, block, Keyword::MaxTime);
+    both(both(seed_in(bytes, block), max_steps), max_time)
 }
 
 /// When the three outputs are sampled.
@@ -82,7 +76,7 @@ fn plan_in(bytes: &[u8], block: &Block) -> Result<Plan, LineFault>
     let (((seed, max_steps), max_time), ((history, procstat), specnum)) = both(limits, samplings)?;
     Ok(Plan {
         seed,
-        max_steps,
+        max_steps: max_steps.unwrap_or(MAX_EVENTS),
         max_time,
         history,
         procstat,

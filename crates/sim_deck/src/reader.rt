@@ -8,10 +8,11 @@ ghost use Rattle.sim_deck.specs.Values.{part_of, part_with, values_at};
 ghost use Rattle.sim_deck.specs.Views.{gas_at, surface_at};
 
 use crate::part::{Plan, SimPart};
-use crate::plan::{conditions_in, wall_time_in};
+use crate::plan::{conditions_in, limit_in};
+use crate::ranges::ANY_WHOLE;
 use crate::species::{Gas, Surface, gas_in, surface_in};
 use dec_text::Decimal;
-use deck_shape::{Block, DeckFault, Fault, Shape};
+use deck_shape::{Block, DeckFault, Fault, Keyword, Shape};
 use deck_words::{LineFault, both, with_fault};
 use kmc_base::{FileId, OutOfMemory, Sequence};
 use std::alloc::Global;
@@ -49,7 +50,8 @@ fn part_of(
     let gas = gas_in(alloc, bytes, block)?;
     let surface = surface_in(alloc, bytes, block)?;
     let part = part_with(conditions_in(bytes, block), gas, surface);
-    Ok(with_fault(wall_time_in(bytes, block).err(), part))
+    let wall_time = limit_in(ANY_WHOLE, bytes, block, Keyword::WallTime);
+    Ok(with_fault(wall_time.err(), part))
 }
 
 /// The values of a simulation file, or its first fault of a value.

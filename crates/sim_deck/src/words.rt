@@ -1,12 +1,11 @@
 //! What single words of the simulation file mean.
 
 ghost use Rattle.deck_values.specs.Numbers.{amount_in, scaled_in, whole_in};
-ghost use Rattle.sim_deck.specs.Values.{event_limit, time_limit, wall_time};
+ghost use Rattle.sim_deck.specs.Values.{or_infinity};
 ghost use Rattle.sim_deck.specs.declared.ranges.TheConstants.{DENTATES as DENTATE_RANGE, ENERGY as ENERGY_RANGE, TEMPERATURE as TEMPERATURE_RANGE};
 
-use crate::ranges::{ANY_WHOLE, DENTATES, ENERGY, EVENT_LIMIT, TEMPERATURE, TIME_LIMIT};
+use crate::ranges::{DENTATES, ENERGY, TEMPERATURE};
 use deck_values::{ReadWord, amount_in, scaled_in, whole_in};
-use kmc_base::MAX_EVENTS;
 
 /// A temperature, in mK.
 pub(crate) struct Temperature;
@@ -62,58 +61,24 @@ impl ReadWord for Dentates {
     }
 }
 
-/// The greatest number of events.
-pub(crate) struct EventLimit;
-
-impl ReadWord for EventLimit {
-    type Value = u64;
-
-    ghost is_usable = { λ _. Unit {0} };
-
-    ghost value_of = { λ _. event_limit };
-
-    fn read(&self, word: &[u8]) -> Result<u64, u8> {
-        if word == b"infinity".as_slice() {
-            return Ok(MAX_EVENTS);
-        }
-        whole_in(EVENT_LIMIT, word)
-    }
+/// A number, or the word `infinity`, which is `None`.
+#[derive(Drop)]
+pub(crate) struct OrInfinity<R> {
+    pub(crate) number: R,
 }
 
-/// The greatest time in attoseconds; `None` where it is `infinity`.
-pub(crate) struct TimeLimit;
+impl<R: ReadWord> ReadWord for OrInfinity<R> {
+    type Value = Option<R::Value>;
 
-impl ReadWord for TimeLimit {
-    type Value = Option<u128>;
+    ghost is_usable = { λ reading. R.is_usable reading.number };
 
-    ghost is_usable = { λ _. Unit {0} };
+    ghost value_of = { λ reading. or_infinity (R.value_of reading.number) };
 
-    ghost value_of = { λ _. time_limit };
-
-    fn read(&self, word: &[u8]) -> Result<Option<u128>, u8> {
+    fn read(&self, word: &[u8]) -> Result<Option<R::Value>, u8> {
         if word == b"infinity".as_slice() {
             return Ok(None);
         }
-        let time = amount_in(TIME_LIMIT, word)?;
-        Ok(Some(time))
-    }
-}
-
-/// A wall time, which is used for nothing; `None` where it is `infinity`.
-pub(crate) struct WallTime;
-
-impl ReadWord for WallTime {
-    type Value = Option<u64>;
-
-    ghost is_usable = { λ _. Unit {0} };
-
-    ghost value_of = { λ _. wall_time };
-
-    fn read(&self, word: &[u8]) -> Result<Option<u64>, u8> {
-        if word == b"infinity".as_slice() {
-            return Ok(None);
-        }
-        let time = whole_in(ANY_WHOLE, word)?;
-        Ok(Some(time))
+        let number = self.number.read(word)?;
+        Ok(Some(number))
     }
 }
