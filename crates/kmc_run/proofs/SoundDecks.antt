@@ -4,7 +4,7 @@ use Rattle.std.proofs.Common.{refl, sym, ap, ◌∙◌, arith}
 use Rattle.std.proofs.lemmas.Bool.{and_parts, not-true, or_parts}
 use Rattle.std.proofs.lemmas.List.{length-map}
 use Rattle.std.specs.List.{AllByRecursion}
-use Rattle.deck_shape.specs.Lists.{names_repeat}
+use Rattle.deck_values.specs.Names.{names_repeat}
 use Rattle.kmc_core.specs.Deck.{IsSound}
 use Rattle.kmc_core.specs.declared.deck.PlainProcess.{PlainProcess}
 use Rattle.lattice_core.specs.Lattice.{IsLattice, Lattice as SiteLattice}

@@ -20,6 +20,8 @@ mod plain_form;
 #[cfg(test)]
 mod simulation_files;
 #[cfg(test)]
-mod simulation_forms;
+mod simulation_ranges;
 #[cfg(test)]
 mod species_names;
+#[cfg(test)]
+mod word_values;

@@ -244,3 +244,24 @@ fn all_words(rt: HostRuntime) -> Result<(), Fail> {
     }
     Ok(())
 }
+
+/// The lists of one gas species and one surface species without one of those that are required.
+const INCOMPLETE: [&str; 5] = [
+    "gas_energies 0\ngas_molar_fracs 1\nsurf_specs_names B\nsurf_specs_dent 1\n",
+    "gas_specs_names A\ngas_molar_fracs 1\nsurf_specs_names B\nsurf_specs_dent 1\n",
+    "gas_specs_names A\ngas_energies 0\nsurf_specs_names B\nsurf_specs_dent 1\n",
+    "gas_specs_names A\ngas_energies 0\ngas_molar_fracs 1\nsurf_specs_dent 1\n",
+    "gas_specs_names A\ngas_energies 0\ngas_molar_fracs 1\nsurf_specs_names B\n",
+];
+
+#[test]
+fn absent_lists(rt: HostRuntime) -> Result<(), Fail> {
+    let alloc = rt.alloc();
+    for lists in INCOMPLETE {
+        let text = format!(in alloc;
+            "temperature 500.0\npressure 1.0\nn_gas_species 1\nn_surf_species 1\n{lists}finish\n"
+        )?;
+        assert_eq!(rt; fault_of(alloc, text.as_bytes())?, Some((9, 15)), "{lists}");
+    }
+    Ok(())
+}
