@@ -1,5 +1,6 @@
 -- what the readings of numbers give is in their ranges
-use Rattle.std.proofs.Common.{◌≡◌, ◌≤◌, ◌≤ℤ◌, ◌||◌, arith, negsuc, pos, unsigned_abs, List, ap, ℕ, ℤ, Bool, true, false, IfOk, Err, Ok, Result, T, refl, sym, subst, if◌then◌else◌, not}
+use Rattle.std.proofs.Common.{◌≡◌, ◌≤◌, ◌≤ℤ◌, ◌||◌, arith, negsuc, pos, unsigned_abs, List, ap, ℕ, ℤ, Bool}
+use Rattle.std.proofs.Common.{true, false, IfOk, Err, Ok, Result, T, refl, sym, subst, if◌then◌else◌, not}
 use Rattle.std.specs.Int.Signed.{lt_z, lt_z_no}
 use Rattle.std.proofs.lemmas.Int.{ints}
 use Rattle.std.proofs.lemmas.Result.{IfOk-at_ok, IfOk-weaker}
@@ -11,7 +12,8 @@ use Rattle.dec_text.specs.declared.faults.DecimalFault.{DecimalFault}
 use Rattle.dec_text.specs.declared.faults.NotWhole.{NotWhole}
 use Rattle.deck_words.specs.declared.kind.TheConstants.{OUT_OF_RANGE}
 use Rattle.deck_values.proofs.Values.{value_map-holds}
-use Rattle.deck_values.specs.Numbers.{amount_in, is_up_to, is_whole_in, scaled_from, scaled_in, scaled_or_kind, up_to, up_to_from, whole_in, whole_within}
+use Rattle.deck_values.specs.Numbers.{amount_in, is_up_to, is_whole_in, scaled_from, scaled_in}
+use Rattle.deck_values.specs.Numbers.{scaled_or_kind, up_to, up_to_from, whole_in, whole_within}
 use Rattle.deck_values.specs.declared.number.ScaledRange.{ScaledRange}
 use Rattle.deck_values.specs.declared.number.WholeRange.{WholeRange}
 use Rattle.std.proofs.lemmas.Bool.{and_parts, leb-true}

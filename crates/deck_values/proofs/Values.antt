@@ -1,5 +1,6 @@
 -- what holds of the values of readings, by what holds of the values of their parts
-use Rattle.std.proofs.Common.{◌≡◌, ◌==◌, ap, suc, refl, subst, ◌∙◌, arith, ℕ, Bool, true, false, not, List, [], ◌∷◌, length, map, nat_lt, IfOk, Option, None, Some}
+use Rattle.std.proofs.Common.{◌≡◌, ◌==◌, ap, suc, refl, subst, ◌∙◌, arith, ℕ, Bool, true, false}
+use Rattle.std.proofs.Common.{not, List, [], ◌∷◌, length, map, nat_lt, IfOk, Option, None, Some}
 use Rattle.std.proofs.Common.{Result, Ok, Err}
 use Rattle.std.specs.List.{AllByRecursion, list_any}
 use Rattle.std.specs.Result.{result_err, result_ok}

@@ -1,7 +1,8 @@
 ghost use Rattle.std.specs.Prelude.{◌≡◌, ◌<◌, ◌≤◌, ◌≤ℤ◌, ◌*◌, ◌^◌, IfOk, nat_le, pos, true};
 ghost use Rattle.dec_text.specs.Decimals.{decimal_of};
 ghost use Rattle.dec_text.specs.Wholes.{whole_number};
-ghost use Rattle.deck_values.specs.Numbers.{IsAmount, IsScaledRange, amount_in, any_decimal, decimal_kind, is_at_most, is_up_to, is_whole_in, scaled_in, up_to, whole_in};
+ghost use Rattle.deck_values.specs.Numbers.{IsAmount, IsScaledRange, amount_in, any_decimal, decimal_kind, scaled_in, up_to, whole_in};
+ghost use Rattle.deck_values.specs.Numbers.{is_at_most, is_up_to, is_whole_in};
 
 use crate::words::ReadWord;
 use dec_text::{Decimal, DecimalFault, read_decimal, read_whole};

@@ -1,5 +1,6 @@
 -- the values of a file that is read are sound
-use Rattle.std.proofs.Common.{◌≡◌, ◌∙◌, ◌≤◌, arith, length, map, subst, sym, true, ℕ, ℤ, pos, negsuc, unsigned_abs, ◌≤ℤ◌, neg_ℤ, List, IfOk, Some, Result, Ok, refl}
+use Rattle.std.proofs.Common.{◌≡◌, ◌∙◌, ◌≤◌, arith, length, map, subst, sym, true, ℕ, ℤ}
+use Rattle.std.proofs.Common.{pos, negsuc, unsigned_abs, ◌≤ℤ◌, neg_ℤ, List, IfOk, Some, Result, Ok, refl}
 use Rattle.std.specs.Result.{result_err}
 use Rattle.std.proofs.lemmas.List.{length-map}
 use Rattle.std.proofs.lemmas.List.Elements.{All-from_recursion}
@@ -45,10 +46,12 @@ names_on-hold count item =
     (IfOk-weaker words _ _ (λ runs are. subst (AreSpecies count) (sym (map-map (λ name. name.word.bytes) (on_line line) runs)) are)
     (species_on-holds count line (arguments_of item.line)))
 
-names-hold : (count : ℕ) (keyword : Keyword) (block : BlockLines) → IfOk (names_in (Some count) keyword block) (λ names. AreSpecies count (bytes_in names))
+names-hold : (count : ℕ) (keyword : Keyword) (block : BlockLines)
+    → IfOk (names_in (Some count) keyword block) (λ names. AreSpecies count (bytes_in names))
 names-hold count keyword block =
-    line_value_or-holds (λ names. AreSpecies count (bytes_in names)) (absent_list (Some count) block.end_line) (names_on (Some count)) keyword block.items
-    (absent_list-holds (λ names. AreSpecies count (bytes_in names)) count block.end_line (λ none. record { length_is = none; differ = refl; no_sign = refl }))
+    let Are = λ (names : List NameWord). AreSpecies count (bytes_in names) in
+    line_value_or-holds Are (absent_list (Some count) block.end_line) (names_on (Some count)) keyword block.items
+    (absent_list-holds Are count block.end_line (λ none. record { length_is = none; differ = refl; no_sign = refl }))
     (names_on-hold count)
 
 numbers-hold : {X : Type 0} (P : X → Type 0) (read : List ℕ → Result X ℕ) (count : ℕ) (keyword : Keyword) (block : BlockLines)
@@ -89,7 +92,8 @@ gas_lists-hold block count few =
     (λ word. IfOk-weaker (scaled_in ENERGY word) _ IsEnergy (λ e within. small e within) (scaled-holds ENERGY word))))
     (numbers-hold IsFraction (up_to FRACTION.power) count GasMolarFracs block (up_to-holds FRACTION.power)) in
     value_map-holds AreGas _ _
-    (IfOk-weaker _ _ (λ (found : (List NameWord × List ℤ) × List Scientific). AreGas (record { names = found.0.0; energies = found.0.1; fractions = found.1 }))
+    (IfOk-weaker _ _
+    (λ (found : (List NameWord × List ℤ) × List Scientific). AreGas (record { names = found.0.0; energies = found.0.1; fractions = found.1 }))
     (λ found all. record { count = count; few = few; names = all.0.0; energies = all.0.1; fractions = all.1 }) lists)
 
 gas-holds : (block : BlockLines) → IfOk (gas_in block) AreGas

@@ -13,7 +13,7 @@ use Rattle.deck_values.proofs.Ranges.{amount-holds, up_to-holds, whole-holds}
 use Rattle.deck_values.proofs.Values.{at_line-holds, both-holds, one-holds, value_map-holds}
 use Rattle.deck_values.specs.Numbers.{amount_in, is_up_to, up_to, whole_in}
 use Rattle.deck_values.specs.Words.{one}
-use Rattle.deck_words.specs.Faults.{both, value_map}
+use Rattle.deck_words.specs.Faults.{both}
 use Rattle.deck_words.specs.Tables.{same_word}
 use Rattle.deck_words.specs.declared.fault.LineFault.{LineFault}
 use Rattle.deck_words.specs.declared.keyword.Keyword.{Keyword}
@@ -64,7 +64,9 @@ limit-holds P read keyword block p =
     (value_map-holds (λ limit. IfSome limit P) (λ number. Some number) (read word) (p word)))
 
 period-holds : (word : List ℕ) → IfOk (amount_in TIME_PERIOD word) (λ d. (1 ≤ d) × (d ≤ END_OF_TIME))
-period-holds word = IfOk-weaker (amount_in TIME_PERIOD word) _ _ (λ d within. let a = within.0 in let b = within.1 in (omega (arith, ints), omega (arith, ints)))
+period-holds word =
+    IfOk-weaker (amount_in TIME_PERIOD word) _ _
+    (λ d within. let a = within.0 in let b = within.1 in (omega (arith, ints), omega (arith, ints)))
     (amount-holds TIME_PERIOD word (omega (arith, ints)))
 
 sampling-holds : (words : List (List ℕ)) → IfOk (sampling_of words) IsPeriod

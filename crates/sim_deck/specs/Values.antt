@@ -97,7 +97,8 @@ abbrev pub conditions_in : BlockLines → Result (Plan × (ℕ × Scientific)) L
 conditions_in block = both (plan_in block) (both (temperature_in block) (pressure_in block))
 
 -- the values of a file of these conditions and species
-abbrev pub part_with : Result (Plan × (ℕ × Scientific)) LineFault → Result GasValues LineFault → Result SurfaceValues LineFault → Result SimValues LineFault
+abbrev pub part_with : Result (Plan × (ℕ × Scientific)) LineFault → Result GasValues LineFault → Result SurfaceValues LineFault
+    → Result SimValues LineFault
 part_with conditions gas surface =
     value_map
     (λ parts. record {

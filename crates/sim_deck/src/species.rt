@@ -48,7 +48,8 @@ fn gas_with(
     fractions: Result<Vec<Decimal>, LineFault>,
 ) -> Result<Gas, LineFault>
     ensures { (text : List ℕ) → value_map (gas_at text) result
-        ≡ gas_with (value_map (λ list. map (name_at text) list.items) names) (value_map (λ list. list.items) energies) (value_map (λ list. list.items) fractions) }
+        ≡ gas_with (value_map (λ list. map (name_at text) list.items) names)
+        (value_map (λ list. list.items) energies) (value_map (λ list. list.items) fractions) }
 {
     let ((names, energies), fractions) = both(both(names, energies), fractions)?;
     Ok(Gas {

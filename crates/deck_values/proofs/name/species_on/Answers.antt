@@ -17,5 +17,6 @@ returns c =
     ap (value_map (λ spans. map (run_at text) spans.now)) c.with_fault.ensures
     ∙ with_fault-map (λ spans. map (run_at text) spans.now) _ _
     ∙ ap (λ fault. with_fault fault spans) c.fault_if.ensures
-    ∙ ap (λ bad. with_fault (fault_if bad c.args.line BAD_NAME) spans) (c.any_is_bad-bad.ensures ∙ ap (list_any is_bad_name) (map-bytes_at text c.args.words.now))
+    ∙ ap (λ bad. with_fault (fault_if bad c.args.line BAD_NAME) spans)
+    (c.any_is_bad-bad.ensures ∙ ap (list_any is_bad_name) (map-bytes_at text c.args.words.now))
     ∙ ap (with_fault (bad_name_fault c.args.line (bytes_of words))) c.in_ok-names.ensures
