@@ -10,6 +10,12 @@ use Rattle.deck_words.specs.declared.keyword.Keyword.TheVariants.{HexagonalPerio
 use Rattle.deck_words.specs.declared.keyword.Keyword.TheVariants.{NCellSites, NSiteTypes, SiteTypeNames, SiteTypes, SiteCoordinates}
 use Rattle.deck_words.specs.declared.keyword.Keyword.TheVariants.{NeighboringStructure, EndNeighboringStructure, NSites, MaxCoord}
 use Rattle.deck_words.specs.declared.keyword.Keyword.TheVariants.{LatticeStructure, EndLatticeStructure, EndLattice}
+use Rattle.deck_words.specs.declared.keyword.Keyword.TheVariants.{Energetics, Cluster, Sites, Neighboring, LatticeState}
+use Rattle.deck_words.specs.declared.keyword.Keyword.TheVariants.{GraphMultiplicity, ClusterEng, EndCluster, EndEnergetics}
+use Rattle.deck_words.specs.declared.keyword.Keyword.TheVariants.{Mechanism, Step, ReversibleStep, GasReacsProds, Initial}
+use Rattle.deck_words.specs.declared.keyword.Keyword.TheVariants.{Final, PreExpon, PeRatio, ActivEng, ProxFactor, EndStep}
+use Rattle.deck_words.specs.declared.keyword.Keyword.TheVariants.{EndReversibleStep, EndMechanism, Variant, EndVariant, Angles}
+use Rattle.deck_words.specs.declared.keyword.Keyword.TheVariants.{NoMirrorImages, AbslOrientation}
 
 -- how each is spelled (Zacros manual); case counts
 abbrev pub spelling : Keyword → List ℕ
@@ -52,3 +58,30 @@ spelling MaxCoord = codes "max_coord"
 spelling LatticeStructure = codes "lattice_structure"
 spelling EndLatticeStructure = codes "end_lattice_structure"
 spelling EndLattice = codes "end_lattice"
+spelling Energetics = codes "energetics"
+spelling Cluster = codes "cluster"
+spelling Sites = codes "sites"
+spelling Neighboring = codes "neighboring"
+spelling LatticeState = codes "lattice_state"
+spelling GraphMultiplicity = codes "graph_multiplicity"
+spelling ClusterEng = codes "cluster_eng"
+spelling EndCluster = codes "end_cluster"
+spelling EndEnergetics = codes "end_energetics"
+spelling Mechanism = codes "mechanism"
+spelling Step = codes "step"
+spelling ReversibleStep = codes "reversible_step"
+spelling GasReacsProds = codes "gas_reacs_prods"
+spelling Initial = codes "initial"
+spelling Final = codes "final"
+spelling PreExpon = codes "pre_expon"
+spelling PeRatio = codes "pe_ratio"
+spelling ActivEng = codes "activ_eng"
+spelling ProxFactor = codes "prox_factor"
+spelling EndStep = codes "end_step"
+spelling EndReversibleStep = codes "end_reversible_step"
+spelling EndMechanism = codes "end_mechanism"
+spelling Variant = codes "variant"
+spelling EndVariant = codes "end_variant"
+spelling Angles = codes "angles"
+spelling NoMirrorImages = codes "no_mirror_images"
+spelling AbslOrientation = codes "absl_orientation"

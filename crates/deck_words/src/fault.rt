@@ -30,8 +30,7 @@ pub fn earlier(a: LineFault, b: LineFault) -> LineFault
 pub fn earlier_is_least()
     ensures order { (a b : FaultOfLine) → earlier a b ≡ earlier b a }
     ensures groups { (a b c : FaultOfLine) → earlier (earlier a b) c ≡ earlier a (earlier b c) }
-{
-}
+{}
 
 /// What is read on a line, with the line for its fault.
 pub fn at_line<T>(line: u32, reading: Result<T, u8>) -> Result<T, LineFault>

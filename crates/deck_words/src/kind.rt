@@ -54,14 +54,24 @@ pub const ROW_COUNT: u8 = 16;
 /// A row has another number of words, or a word of another form.
 pub const ROW_FORM: u8 = 17;
 
-/// A list has a name twice.
+/// A list has a name twice, `gas_reacs_prods` a species twice, or a file two clusters or steps of one name.
 pub const REPEATED_NAME: u8 = 18;
 
 /// A species is named `*` or `&`.
 pub const BAD_NAME: u8 = 19;
 
-/// A row of `neighboring_structure` names a site of the cell that is not there.
+/// An edge of a pattern does not name two of its sites, or a row of `neighboring_structure` names a site of the cell
+/// that is not there.
 pub const BAD_EDGE: u8 = 20;
+
+/// A pattern is not connected; the line is that of `neighboring`, or of `sites` where that is absent.
+pub const NOT_CONNECTED: u8 = 21;
+
+/// A row gives an entity a dentate that an earlier row of the same list gave it.
+pub const DOUBLE_DENTATE: u8 = 22;
+
+/// A row gives an entity another species than an earlier row of the same list.
+pub const TWO_SPECIES: u8 = 23;
 
 /// A row of `lattice_structure` gives a site that an earlier row gave.
 pub const REPEATED_SITE: u8 = 24;
@@ -81,5 +91,20 @@ pub const ONE_SIDED: u8 = 28;
 /// The repeats of the cell give more than `MAX_SITES` sites.
 pub const TOO_MANY_SITES: u8 = 29;
 
+/// The energetics file has more than 256 clusters, or the mechanism file more than 1,024 processes; at the closing line.
+pub const TOO_MANY_PARTS: u8 = 30;
+
+/// A row of states names no surface species.
+pub const UNKNOWN_SPECIES: u8 = 31;
+
+/// `gas_reacs_prods` names no gas species.
+pub const UNKNOWN_GAS: u8 = 32;
+
 /// A site type is no number from 1 to `n_site_types` and no name of a type.
 pub const UNKNOWN_TYPE: u8 = 33;
+
+/// A dentate is outside 1 to the dentates of its species; a vacant site has dentate 1 alone.
+pub const BAD_DENTATE: u8 = 34;
+
+/// An entity of `initial` or `final` does not list every dentate of its species.
+pub const MISSING_DENTATE: u8 = 35;

@@ -12,4 +12,7 @@ mod table;
 
 pub use fault::{LineFault, at_line, both, earlier, earlier_is_least, with_fault};
 pub use keyword::Keyword;
-pub use table::{Arguments, BlockForm, Need, Role, Rule, is_spelled};
+pub use table::{
+    Arguments, BlockForm, Need, Role, Rule, all_but_inner_blocks_are_once, is_spelled,
+    needs_of_blocks,
+};
