@@ -1,6 +1,6 @@
 -- The blocks of a file, as lists of lines.
 use Rattle.std.specs.Prelude.{ℕ, ◌||◌, Bool, List, [], ◌∷◌, ◌++◌, map, false}
-use Rattle.std.specs.List.{list_any}
+use Rattle.std.specs.List.{AllByRecursion, list_any}
 use Rattle.dec_text.specs.Lines.{Run, WordLine}
 use Rattle.dec_text.specs.Spans.{line_at, run_at}
 use Rattle.deck_shape.specs.LineWords.{head_of}
@@ -8,9 +8,11 @@ use Rattle.deck_words.specs.Tables.{is_spelled}
 use Rattle.deck_words.specs.declared.keyword.Keyword.{Keyword}
 use Rattle.deck_shape.specs.declared.shape.Block.{Block}
 use Rattle.deck_shape.specs.declared.shape.Item.{Item}
+use Rattle.deck_shape.specs.declared.shape.Section.{Section}
+use Rattle.deck_shape.specs.declared.shape.Shape.{Shape}
 use Rattle.deck_words.specs.declared.table.BlockForm.{BlockForm}
 use Rattle.deck_words.specs.declared.table.Need.{Need}
-use Rattle.deck_words.specs.declared.table.Need.TheVariants.{Optional, Required, ThisOr}
+use Rattle.deck_words.specs.declared.table.Need.TheVariants.{Optional, Required, ThisOr, HereOrInVariants}
 use Rattle.deck_words.specs.declared.table.Rule.{Rule}
 
 -- a word line, and the rows that belong to it
@@ -28,6 +30,20 @@ pub record BlockLines : Type 0 where
   pub name : Run
   pub items : List ItemLines
 
+-- a cluster or a step, and its variants
+pub record SectionLines : Type 0 where
+  pub block : BlockLines
+  pub variants : List BlockLines
+
+-- the block of a file, and the blocks within it
+pub record FileLines : Type 0 where
+  pub block : BlockLines
+  pub sections : List SectionLines
+
+-- a fact of each block of a file: its own, those of its sections and of their variants
+abbrev pub OfEachBlock : (BlockLines → Type 0) → FileLines → Type 0
+OfEachBlock P file = P file.block × AllByRecursion (λ section. P section.block × AllByRecursion P section.variants) file.sections
+
 -- the word line and the rows of an item in its text
 abbrev pub item_at : List ℕ → Item → ItemLines
 item_at text item = record { line = line_at text item.line; rows = map (line_at text) item.rows }
@@ -43,6 +59,14 @@ block_at text block = record {
   items = map (item_at text) block.items;
 }
 
+-- the lines of a section in its text
+abbrev pub section_at : List ℕ → Section → SectionLines
+section_at text section = record { block = block_at text section.block; variants = map (block_at text) section.variants }
+
+-- the lines of a file in its text
+abbrev pub file_at : List ℕ → Shape → FileLines
+file_at text shape = record { block = block_at text shape.block; sections = map (section_at text) shape.sections }
+
 -- a word line has this keyword
 abbrev pub has_keyword : Keyword → ItemLines → Bool
 has_keyword keyword item = is_spelled keyword (head_of item.line)
@@ -56,6 +80,7 @@ abbrev pub has_other : Need → List ItemLines → Bool
 has_other Optional items = false
 has_other Required items = false
 has_other (ThisOr other) items = stands other items
+has_other HereOrInVariants items = false
 
 -- some word line has the word of a rule, or the other word that counts as the same
 abbrev pub has_word_of : Rule → List ItemLines → Bool

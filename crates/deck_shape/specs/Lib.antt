@@ -8,7 +8,9 @@ pub mod BlockValues
 pub mod Numbers
 pub mod Reading
 pub mod LineFaults
+pub mod OpenBlocks
 pub mod Shapes
 pub mod Views
 pub mod WholeBlocks
+pub mod RisingLines
 pub mod FirstFault

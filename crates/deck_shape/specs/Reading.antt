@@ -3,37 +3,46 @@ use Rattle.std.specs.Prelude.{ℕ, List, [], ◌∷◌, ◌++◌, Option, None, 
 use Rattle.std.specs.Option.{option_map_or}
 use Rattle.dec_text.specs.Lines.{WordLine, run}
 use Rattle.kmc_base.specs.declared.ids.FileId.{FileId}
-use Rattle.kmc_base.specs.declared.ids.FileId.TheVariants.{Simulation as SimulationFile, Lattice as LatticeText, Energetics, Mechanism, State}
-use Rattle.deck_shape.specs.Blocks.{BlockLines, with_row}
+use Rattle.kmc_base.specs.declared.ids.FileId.TheVariants.{Simulation as SimulationText, Lattice as LatticeText}
+use Rattle.kmc_base.specs.declared.ids.FileId.TheVariants.{Energetics as EnergeticsText, Mechanism as MechanismText, State as StateText}
+use Rattle.deck_shape.specs.Blocks.{BlockLines, SectionLines, with_row}
 use Rattle.deck_shape.specs.LineWords.{arguments_of, first_of, head_of, is_row}
 use Rattle.deck_words.specs.Tables.{rule_for, same_word}
 use Rattle.deck_shape.specs.declared.reading.Below.{Below}
 use Rattle.deck_shape.specs.declared.reading.Below.TheVariants.{Words, Rows, Enclosed}
 use Rattle.deck_words.specs.declared.table.BlockForm.{BlockForm}
 use Rattle.deck_words.specs.declared.table.BlockForm.TheVariants.{Simulation, LatticeFile, DefaultChoice, PeriodicCell, Explicit}
+use Rattle.deck_words.specs.declared.table.BlockForm.TheVariants.{EnergeticsFile, MechanismFile}
 use Rattle.deck_words.specs.declared.table.Role.{Role}
-use Rattle.deck_words.specs.declared.table.Role.TheVariants.{Value, Rows as HasRows, Encloses, BeginsLattice, Closes, Unsupported}
+use Rattle.deck_words.specs.declared.table.Role.TheVariants.{Value, Rows as HasRows, Encloses, Opens, Begins, BeginsLattice}
+use Rattle.deck_words.specs.declared.table.Role.TheVariants.{Closes, Unsupported}
 use Rattle.deck_words.specs.declared.table.Rule.{Rule}
 
--- what has been read of a file after some of its lines: its block so far, and what the next line may be
+-- What has been read of a file after some of its lines: the innermost block that is open, what the next line may be, the
+-- open blocks around it, the innermost first, the closed variants of the open section, and the closed sections.
 pub record SoFar : Type 0 where
   pub block : BlockLines
   pub below : Below
+  pub around : List BlockLines
+  pub variants : List BlockLines
+  pub sections : List SectionLines
 
 -- the block that a file is before its first line, where its words are known
 abbrev pub first_block : FileId → Option BlockForm
-first_block SimulationFile = Some Simulation
+first_block SimulationText = Some Simulation
 first_block LatticeText = Some LatticeFile
-first_block Energetics = None
-first_block Mechanism = None
-first_block State = None
+first_block EnergeticsText = Some EnergeticsFile
+first_block MechanismText = Some MechanismFile
+first_block StateText = None
+
+-- a file of which one block is open and nothing else is read
+abbrev pub only_open : BlockLines → SoFar
+only_open block = record { block = block; below = Words; around = []; variants = []; sections = [] }
 
 -- nothing has been read yet
 abbrev pub nothing_read : BlockForm → SoFar
-nothing_read form = record {
-  block = record { form = form; word = run 0 []; line = 0; end_line = 0; name = run 0 []; items = [] };
-  below = Words;
-}
+nothing_read form =
+    only_open (record { form = form; word = run 0 []; line = 0; end_line = 0; name = run 0 []; items = [] })
 
 -- the block of a line below: that of enclosed rows, or the file's
 abbrev pub form_below : Below → BlockForm → BlockForm
@@ -63,10 +72,10 @@ lattice_block word =
 abbrev pub argument_of : WordLine → List ℕ
 argument_of line = (first_of (arguments_of line)).bytes
 
--- the block once a word line has opened it
-abbrev pub begun : WordLine → BlockLines → BlockLines
-begun line block = record {
-  form = unwrap_or (lattice_block (argument_of line)) block.form;
+-- a block that a word line opens
+abbrev pub opened : WordLine → BlockForm → BlockLines
+opened line form = record {
+  form = form;
   word = first_of line.words;
   line = line.number;
   end_line = 0;
@@ -74,21 +83,60 @@ begun line block = record {
   items = [];
 }
 
+-- a block that is closed on a line
+abbrev pub closed : ℕ → BlockLines → BlockLines
+closed line block = record block { end_line = line }
+
 -- one word line more, and what may be below it
 abbrev pub with_item : WordLine → Below → SoFar → SoFar
-with_item line below so_far = record {
+with_item line below so_far = record so_far {
   block = record so_far.block { items = so_far.block.items ++ record { line = line; rows = [] } ∷ [] };
   below = below;
 }
 
--- what has been read after one more word line without faults, by the role of its word; the line that closes the file
+-- the innermost block is closed, a section of the file around it
+abbrev pub section_closed : ℕ → BlockLines → SoFar → SoFar
+section_closed line file so_far = record {
+  block = file;
+  below = Words;
+  around = [];
+  variants = [];
+  sections = so_far.sections ++ record { block = closed line so_far.block; variants = so_far.variants } ∷ [];
+}
+
+-- the innermost block is closed, a variant of the section around it; the blocks around that section stay open
+abbrev pub variant_closed : ℕ → BlockLines → List BlockLines → SoFar → SoFar
+variant_closed line section others so_far = record so_far {
+  block = section;
+  below = Words;
+  around = others;
+  variants = so_far.variants ++ closed line so_far.block ∷ [];
+}
+
+-- the innermost block is closed, by the open blocks around it; none is around the block of the file, whose closing is
+-- not asked for here
+abbrev pub after_inner_block : ℕ → List BlockLines → SoFar → SoFar
+after_inner_block line [] so_far = so_far
+after_inner_block line (file ∷ []) so_far = section_closed line file so_far
+after_inner_block line (section ∷ outer ∷ others) so_far = variant_closed line section (outer ∷ others) so_far
+
+-- the closing word of enclosed rows, or of the innermost block
+abbrev pub after_closing : WordLine → SoFar → Below → SoFar
+after_closing line so_far (Enclosed rows) = record so_far { below = Words }
+after_closing line so_far Words = after_inner_block line.number so_far.around so_far
+after_closing line so_far Rows = after_inner_block line.number so_far.around so_far
+
+-- what has been read after a word line without faults; the closing word of the file, after which nothing is read,
 -- is not among them
 abbrev pub after_word : WordLine → SoFar → Role → SoFar
 after_word line so_far Value = with_item line Words so_far
 after_word line so_far HasRows = with_item line Rows so_far
 after_word line so_far (Encloses rows) = with_item line (Enclosed rows) so_far
-after_word line so_far BeginsLattice = record { block = begun line so_far.block; below = Words }
-after_word line so_far Closes = record so_far { below = Words }
+after_word line so_far (Opens form) =
+    record so_far { block = opened line form; below = Words; around = so_far.block ∷ so_far.around }
+after_word line so_far (Begins form) = only_open (opened line form)
+after_word line so_far BeginsLattice = only_open (opened line (unwrap_or (lattice_block (argument_of line)) so_far.block.form))
+after_word line so_far Closes = after_closing line so_far so_far.below
 after_word line so_far Unsupported = so_far
 
 -- a row belongs to the last word line

@@ -1,27 +1,26 @@
 -- The shape of a file, and what reading it may answer.
-use Rattle.std.specs.Prelude.{◌≡◌, ℕ, List, [], ◌∷◌, map, Some, Result, Ok, Err}
+use Rattle.std.specs.Prelude.{◌≡◌, ℕ, List, Some, Result, Ok, Err}
 use Rattle.kmc_base.specs.declared.ids.FileId.{FileId}
-use Rattle.kmc_base.specs.declared.ids.FileId.TheVariants.{Lattice}
-use Rattle.deck_shape.specs.Blocks.{BlockLines, block_at}
-use Rattle.deck_shape.specs.LineFaults.{block_of_text}
+use Rattle.deck_shape.specs.Blocks.{OfEachBlock, file_at}
+use Rattle.deck_shape.specs.LineFaults.{file_of_text}
 use Rattle.deck_shape.specs.Reading.{first_block}
-use Rattle.deck_shape.specs.WholeBlocks.{IsLatticeForm, IsWhole}
+use Rattle.deck_shape.specs.RisingLines.{RisesBlock}
+use Rattle.deck_shape.specs.WholeBlocks.{IsFormOf, IsWholeFile}
 use Rattle.deck_shape.specs.declared.fault.DeckFault.{DeckFault}
 use Rattle.deck_shape.specs.declared.fault.DeckFault.TheVariants.{Fault as Faulty, OutOfMemory}
 use Rattle.deck_shape.specs.declared.shape.Shape.{Shape}
 use Rattle.deck_words.specs.declared.fault.LineFault.{LineFault}
 use Rattle.deck_words.specs.declared.table.BlockForm.{BlockForm}
 
--- the shape of a text of a file: it has one block, that of the text, which is whole; in a lattice file it is that of a
--- lattice
+-- the shape of a text of a file: its blocks are those of the text, they are whole, their lines rise, and the file's block
+-- is one of that file
 pub record IsShapeOf (file : FileId) (text : List ℕ) (shape : Shape) : Type 0 where
   pub form : BlockForm
   pub begins : first_block file ≡ Some form
-  pub block : BlockLines
-  pub one : map (block_at text) shape.blocks ≡ block ∷ []
-  pub read : block_of_text form text ≡ Ok block
-  pub whole : IsWhole block
-  pub lattice : file ≡ Lattice → IsLatticeForm block.form
+  pub read : file_of_text form text ≡ Ok (file_at text shape)
+  pub whole : IsWholeFile (file_at text shape)
+  pub rising : OfEachBlock RisesBlock (file_at text shape)
+  pub form_of_file : IsFormOf file shape.block.form
 
 -- The fault of a file that was not read: it names the file, and the line and the kind that the definition of its
 -- reading gives. Out of memory says nothing of the file.

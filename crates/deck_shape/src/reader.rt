@@ -1,8 +1,8 @@
 ghost use Rattle.std.specs.Prelude.{◌≡◌, ◌-◌, ◌^◌, ◌<◌, ◌≤◌, IfOk, IfErr, IsSome, length, Ok, count_by};
 ghost use Rattle.dec_text.specs.Bytes.{is_line_feed};
 ghost use Rattle.dec_text.specs.Spans.{line_at};
-ghost use Rattle.deck_shape.specs.Blocks.{block_at};
-ghost use Rattle.deck_shape.specs.LineFaults.{block_of_text, line_count};
+ghost use Rattle.deck_shape.specs.Blocks.{file_at};
+ghost use Rattle.deck_shape.specs.LineFaults.{file_of_text, line_count};
 ghost use Rattle.deck_shape.specs.Reading.{after_line, first_block};
 ghost use Rattle.deck_shape.specs.Shapes.{IsFaultOf, IsShapeOf};
 ghost use Rattle.deck_shape.specs.Views.{reading_at};
@@ -10,11 +10,11 @@ ghost use Rattle.deck_shape.specs.Views.{reading_at};
 use crate::check::{closes_file, fault_at, is_row, rule_at};
 use crate::fault::{DeckFault, Fault};
 use crate::reading::{Reading, first_block};
-use crate::shape::{Block, Shape};
+use crate::shape::Shape;
 use dec_text::{FIRST_LINE, Line, next_line};
 use deck_words::BlockForm;
 use deck_words::kind::NOT_CLOSED;
-use kmc_base::{FileId, OutOfMemory, Sequence};
+use kmc_base::{FileId, OutOfMemory};
 use std::alloc::Global;
 
 /// How many line ends a text has.
@@ -61,16 +61,11 @@ fn fault(file: FileId, line: u32, kind: u8) -> DeckFault
     DeckFault::Fault(Fault { file, line, kind })
 }
 
-/// The block of a file, or its first fault of form.
-fn read_block(
-    alloc: Global,
-    file: FileId,
-    form: BlockForm,
-    bytes: &[u8],
-) -> Result<Block, DeckFault>
+/// The blocks of a file, or its first fault of form.
+fn read_file(alloc: Global, file: FileId, form: BlockForm, bytes: &[u8]) -> Result<Shape, DeckFault>
     requires { length bytes.now < 2 ^ 32 - 1 }
-    ensures block { IfOk result (λ block. block_of_text form bytes.now ≡ Ok (block_at bytes.now block)) }
-    ensures fault { IfErr result (IsFaultOf file (block_of_text form bytes.now)) }
+    ensures shape { IfOk result (λ shape. file_of_text form bytes.now ≡ Ok (file_at bytes.now shape)) }
+    ensures fault { IfErr result (IsFaultOf file (file_of_text form bytes.now)) }
 {
     let mut place = FIRST_LINE;
     let mut reading = Reading::new(alloc, form);
@@ -86,23 +81,19 @@ fn read_block(
     Err(fault(file, line_count(bytes) as u32 + 1, NOT_CLOSED))
 }
 
-/// The shape of a file: its block with its word lines and rows, or its first fault of form.
+/// The shape of a file: its blocks with their word lines and rows, or its first fault of form.
 ///
 /// The faults of form are `kind::STRAY_ROW` to `kind::UNKNOWN_LATTICE`. A file is read up to its first faulty line, or
 /// its closing word; of the kinds that hold at that line the least is the fault. The files that have tables so far are
-/// those of the simulation and of the lattice.
+/// those of the simulation, the lattice, the energetics and the mechanism.
 pub fn read_shape(alloc: Global, file: FileId, bytes: &[u8]) -> Result<Shape, DeckFault>
     requires known { IsSome (first_block file) }
     requires short { length bytes.now < 2 ^ 32 - 1 }
     ensures shape { IfOk result (IsShapeOf file bytes.now) }
-    ensures fault { (form : BlockForm) → first_block file ≡ Some form → IfErr result (IsFaultOf file (block_of_text form bytes.now)) }
+    ensures fault { (form : BlockForm) → first_block file ≡ Some form → IfErr result (IsFaultOf file (file_of_text form bytes.now)) }
 {
     let Some(form) = first_block(file) else {
         unreachable!();
     };
-    let block = read_block(alloc, file, form, bytes)?;
-    let blocks = Vec::from_array(alloc, [block])?;
-    Ok(Shape {
-        blocks: Sequence::new(blocks),
-    })
+    read_file(alloc, file, form, bytes)
 }

@@ -1,4 +1,4 @@
-ghost use Rattle.std.specs.Prelude.{◌≡◌, ◌∷◌, [], ℕ, List, IfOk, length, map};
+ghost use Rattle.std.specs.Prelude.{◌≡◌, ℕ, List, IfOk, map};
 ghost use Rattle.std.specs.List.{find};
 ghost use Rattle.std.specs.Option.{option_map};
 ghost use Rattle.dec_text.specs.Spans.{bytes_at, line_at, run_at};
@@ -110,19 +110,20 @@ impl Block {
     }
 }
 
+/// A cluster or a step, with its variants.
+#[derive(Debug, Drop)]
+pub struct Section {
+    /// The cluster or the step.
+    pub block: Block,
+    /// The blocks of its variants, in order.
+    pub variants: Sequence<Block>,
+}
+
 /// The blocks and lines of a file without a fault of form.
 #[derive(Debug, Drop)]
 pub struct Shape {
-    /// The one block of the file.
-    pub blocks: Sequence<Block>,
-    ghost one: { length blocks ≡ 1 },
-}
-
-impl Shape {
-    /// The one block of the file.
-    pub fn block(&self) -> &Block
-        ensures { (text : List ℕ) → map (block_at text) self.now.blocks ≡ block_at text result.now ∷ [] }
-    {
-        &self.blocks.as_slice()[0]
-    }
+    /// The block of the file.
+    pub block: Block,
+    /// Its clusters or steps, in order. Only the energetics and mechanism files have any.
+    pub sections: Sequence<Section>,
 }

@@ -1,7 +1,8 @@
 -- Readings one after another, of which the first that fails ends them all.
 use Rattle.std.proofs.Common.{◌≡◌, ℕ, List, Some, Result, Ok, Err, sym, ap, ◌∙◌}
 use Rattle.std.specs.Prelude.{unwrap_or}
-use Rattle.deck_shape.specs.LineFaults.{block_of_text}
+use Rattle.deck_shape.specs.Blocks.{file_at}
+use Rattle.deck_shape.specs.LineFaults.{file_of_text}
 use Rattle.deck_shape.specs.Reading.{first_block}
 use Rattle.deck_shape.specs.Shapes.{IsFaultOf, IsShapeOf}
 use Rattle.deck_shape.specs.declared.fault.DeckFault.{DeckFault}
@@ -34,5 +35,5 @@ file_fails file read OutOfMemory is = tt
 
 -- the lines of a file that has a shape
 pub lines_read : (file : FileId) (form : BlockForm) (text : List ℕ) (shape : Shape) → first_block file ≡ Some form
-    → (s : IsShapeOf file text shape) → in_file file (block_of_text form text) ≡ Ok s.block
-lines_read file form text shape is s = ap (in_file file) (ap (λ o. block_of_text (unwrap_or o form) text) (sym is ∙ s.begins) ∙ s.read)
+    → (s : IsShapeOf file text shape) → in_file file (file_of_text form text) ≡ Ok (file_at text shape)
+lines_read file form text shape is s = ap (in_file file) (ap (λ o. file_of_text (unwrap_or o form) text) (sym is ∙ s.begins) ∙ s.read)

@@ -2,7 +2,7 @@
 use Rattle.std.specs.Prelude.{◌≡◌, ℕ, ◌*◌, ◌^◌, ◌&&◌, Bool, true, false, not, List, [], ◌∷◌, map, Option, None, Some, Result, Ok, Err}
 use Rattle.std.specs.Prelude.{if◌then◌else◌, is_none, length, pos}
 use Rattle.deck_shape.specs.Blocks.{BlockLines}
-use Rattle.deck_shape.specs.LineFaults.{block_of_text}
+use Rattle.deck_shape.specs.LineFaults.{file_of_text}
 use Rattle.deck_shape.specs.Names.{NameWord}
 use Rattle.deck_shape.specs.declared.fault.DeckFault.{DeckFault}
 use Rattle.deck_shape.specs.declared.fault.DeckFault.TheVariants.{Fault as Faulty, OutOfMemory}
@@ -87,9 +87,9 @@ types_in lattice = in_file Lattice (unless_fault (unknown_type lattice.type_name
 -- the lines of a simulation file and a lattice file, or the first fault of form
 abbrev pub lines_in : List ℕ → List ℕ → Result (BlockLines × BlockLines) Fault
 lines_in simulation lattice =
-    and_then (in_file Simulation (block_of_text SimulationBlock simulation)) (λ simulation_lines.
-    and_then (in_file Lattice (block_of_text LatticeBlock lattice)) (λ lattice_lines.
-    Ok (simulation_lines, lattice_lines)))
+    and_then (in_file Simulation (file_of_text SimulationBlock simulation)) (λ simulation_file.
+    and_then (in_file Lattice (file_of_text LatticeBlock lattice)) (λ lattice_file.
+    Ok (simulation_file.block, lattice_file.block)))
 
 -- the values of their lines, or the first fault of a value; a type word of the lattice that is no type comes last
 abbrev pub values_of_lines : BlockLines → BlockLines → Result (SimValues × LatticeValues) Fault

@@ -1,7 +1,7 @@
 //! The values of a simulation file and a lattice file, or their first fault.
 
-ghost use Rattle.std.specs.Prelude.{◌≡◌, ◌≤◌, ◌∷◌, [], IfErr, IfOk, length, map};
-ghost use Rattle.deck_shape.specs.Blocks.{BlockLines, block_at};
+ghost use Rattle.std.specs.Prelude.{◌≡◌, ◌≤◌, IfErr, IfOk, length};
+ghost use Rattle.deck_shape.specs.Blocks.{block_at};
 ghost use Rattle.deck_shape.specs.Shapes.{IsShapeOf};
 ghost use Rattle.kmc_base.specs.declared.ids.FileId.TheVariants.{Simulation, Lattice};
 ghost use Rattle.lattice_deck.specs.Parts.{values_at as lattice_values_at};
@@ -56,9 +56,8 @@ fn read_parts(
 ) -> Result<(SimPart, LatticePart), DeckFault>
     requires simulation { IsShapeOf Simulation simulation.now simulation_shape.now }
     requires lattice { IsShapeOf Lattice lattice.now lattice_shape.now }
-    ensures values { (simulation_lines lattice_lines : BlockLines) → map (block_at simulation.now) simulation_shape.now.blocks ≡ simulation_lines ∷ []
-        → map (block_at lattice.now) lattice_shape.now.blocks ≡ lattice_lines ∷ []
-        → Reads (λ parts. (values_at simulation.now parts.0, lattice_values_at lattice.now parts.1)) result (values_of_lines simulation_lines lattice_lines) }
+    ensures values { Reads (λ parts. (values_at simulation.now parts.0, lattice_values_at lattice.now parts.1)) result
+        (values_of_lines (block_at simulation.now simulation_shape.now.block) (block_at lattice.now lattice_shape.now.block)) }
     ensures sound { IfOk result (λ parts. IsSoundPart (values_at simulation.now parts.0)) }
 {
     let simulation_part = sim_deck::read(alloc, simulation, simulation_shape)?;

@@ -26,9 +26,7 @@ use Rattle.deck_words.specs.declared.keyword.Keyword.TheVariants.{SiteTypes}
 use Rattle.deck_words.specs.declared.kind.TheConstants.{LIST_LENGTH, REPEATED_NAME, ROW_COUNT, TOO_MANY_NEIGHBOURS, TOO_MANY_SITES}
 use Rattle.deck_shape.specs.declared.number.NumberForm.TheVariants.{Whole}
 use Rattle.deck_words.specs.declared.table.BlockForm.{BlockForm}
-use Rattle.deck_words.specs.declared.table.BlockForm.TheVariants.{Simulation, LatticeFile, DefaultChoice, PeriodicCell, Explicit}
-use Rattle.deck_words.specs.declared.table.BlockForm.TheVariants.{NeighboringStructure as NeighboringRows}
-use Rattle.deck_words.specs.declared.table.BlockForm.TheVariants.{LatticeStructure as LatticeRows}
+use Rattle.deck_words.specs.declared.table.BlockForm.TheVariants.{DefaultChoice, PeriodicCell, Explicit}
 use Rattle.deck_words.specs.declared.table.Rule.{Rule}
 use Rattle.kmc_base.specs.declared.limits.TheConstants.{MAX_SITES}
 use Rattle.lattice_cell.specs.declared.expand.DefaultLattice.TheVariants.{Hexagonal, Rectangular}
@@ -311,15 +309,15 @@ module _ (items : List ItemLines) (known : AllByRecursion (IsKnown Explicit) ite
       }
 
 -- no word of a block is missing
-all_there : (items : List ItemLines) (rules : List Rule) → list_any (is_missing items) rules ≡ false
-    → AllByRecursion (λ rule. is_missing items rule ≡ false) rules
+all_there : (items : List ItemLines) (rules : List Rule) → list_any (is_missing [] items) rules ≡ false
+    → AllByRecursion (λ rule. is_missing [] items rule ≡ false) rules
 all_there items [] none = tt
 all_there items (rule ∷ rules) none =
-    let parts = or_parts (is_missing items rule) (list_any (is_missing items) rules) none in
+    let parts = or_parts (is_missing [] items rule) (list_any (is_missing [] items) rules) none in
     (parts.0, all_there items rules parts.1)
 
 by_kind : (kind : BlockForm) (items : List ItemLines) → IsLatticeForm kind → AllByRecursion (IsKnown kind) items
-    → list_any (is_missing items) (rules_of kind) ≡ false → fault_among (sizes_in items) items ≡ None
+    → list_any (is_missing [] items) (rules_of kind) ≡ false → fault_among (sizes_in items) items ≡ None
     → AreFaultless kind items
 by_kind DefaultChoice items is known missing none =
     let all = all_there items (rules_of DefaultChoice) missing in
@@ -334,10 +332,7 @@ by_kind Explicit items is known missing none =
     let all = all_there items (rules_of Explicit) missing in
     explicit_faultless items known none (standing NSites items all.0) (standing NSiteTypes items all.1.1.0)
     (standing SiteTypeNames items all.1.1.1.0) (standing LatticeStructure items all.1.1.1.1.0)
-by_kind Simulation items is known missing none = absurd is
-by_kind LatticeFile items is known missing none = absurd is
-by_kind NeighboringRows items is known missing none = absurd is
-by_kind LatticeRows items is known missing none = absurd is
+by_kind form items is known missing none = absurd is
 
 pub faultless : (block : BlockLines) → IsLatticeForm block.form → IsWhole block → first_fault block ≡ None → AreFaultless block.form block.items
 faultless block kind whole none = by_kind block.form block.items kind whole.known whole.none_missing none

@@ -8,9 +8,7 @@ use Rattle.deck_shape.specs.Lists.{names_repeat}
 use Rattle.deck_words.specs.declared.keyword.Keyword.TheVariants.{HexagonalPeriodic, LatticeStructure, NeighboringStructure}
 use Rattle.deck_words.specs.declared.keyword.Keyword.TheVariants.{RectangularPeriodic, SiteTypeNames, SiteTypes}
 use Rattle.deck_words.specs.declared.table.BlockForm.{BlockForm}
-use Rattle.deck_words.specs.declared.table.BlockForm.TheVariants.{Simulation, LatticeFile, DefaultChoice, PeriodicCell, Explicit}
-use Rattle.deck_words.specs.declared.table.BlockForm.TheVariants.{NeighboringStructure as NeighboringRows}
-use Rattle.deck_words.specs.declared.table.BlockForm.TheVariants.{LatticeStructure as LatticeRows}
+use Rattle.deck_words.specs.declared.table.BlockForm.TheVariants.{DefaultChoice, PeriodicCell, Explicit}
 use Rattle.deck_shape.specs.FirstFault.{first_of_lines}
 use Rattle.kmc_base.specs.declared.limits.TheConstants.{MAX_SITES}
 use Rattle.lattice_deck.specs.Faults.{default_kind, row_lines}
@@ -60,12 +58,9 @@ pub record IsExplicit (sizes : Sizes) (names : List (List ℕ)) (rows : List Wor
   pub type_names : AreTypeNames sizes.types names
   pub sound_rows : first_row_fault sizes.sites rows ≡ None
 
--- the words and rows that make the lattice have no fault; the last four are the forms of no lattice
+-- the words and rows that make the lattice have no fault; the other forms are those of no lattice
 abbrev pub AreFaultless : BlockForm → List ItemLines → Type 0
 AreFaultless DefaultChoice items = HasDefault items
 AreFaultless PeriodicCell items = IsCell (sizes_in items) (list_in SiteTypeNames items) (list_in SiteTypes items) (rows_in NeighboringStructure items)
 AreFaultless Explicit items = IsExplicit (sizes_in items) (list_in SiteTypeNames items) (rows_in LatticeStructure items)
-AreFaultless Simulation items = ⊥
-AreFaultless LatticeFile items = ⊥
-AreFaultless NeighboringRows items = ⊥
-AreFaultless LatticeRows items = ⊥
+AreFaultless form items = ⊥

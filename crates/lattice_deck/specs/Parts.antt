@@ -12,9 +12,7 @@ use Rattle.deck_words.specs.declared.keyword.Keyword.{Keyword}
 use Rattle.deck_words.specs.declared.keyword.Keyword.TheVariants.{HexagonalPeriodic, LatticeStructure, NeighboringStructure}
 use Rattle.deck_words.specs.declared.keyword.Keyword.TheVariants.{RectangularPeriodic, SiteTypeNames, SiteTypes}
 use Rattle.deck_words.specs.declared.table.BlockForm.{BlockForm}
-use Rattle.deck_words.specs.declared.table.BlockForm.TheVariants.{Simulation, LatticeFile, DefaultChoice, PeriodicCell, Explicit}
-use Rattle.deck_words.specs.declared.table.BlockForm.TheVariants.{NeighboringStructure as NeighboringRows}
-use Rattle.deck_words.specs.declared.table.BlockForm.TheVariants.{LatticeStructure as LatticeRows}
+use Rattle.deck_words.specs.declared.table.BlockForm.TheVariants.{DefaultChoice, PeriodicCell, Explicit}
 use Rattle.lattice_cell.specs.Default.{default_lattice}
 use Rattle.lattice_cell.specs.Periodic.{periodic_lattice}
 use Rattle.lattice_cell.specs.declared.expand.DefaultLattice.{DefaultLattice}
@@ -92,15 +90,12 @@ explicit_values items = record {
   type_words = map type_on (rows_in LatticeStructure items);
 }
 
--- the values of a block, by its form; the last four are the forms of no lattice
+-- the values of a block, by its form; the other forms are those of no lattice
 abbrev pub values_of : BlockForm → List ItemLines → LatticeValues
 values_of DefaultChoice items = default_values items
 values_of PeriodicCell items = cell_values items
 values_of Explicit items = explicit_values items
-values_of Simulation items = default_values items
-values_of LatticeFile items = default_values items
-values_of NeighboringRows items = default_values items
-values_of LatticeRows items = default_values items
+values_of form items = default_values items
 
 -- the values, unless there is a fault
 abbrev pub values_unless : LatticeValues → Option (ℕ × ℕ) → Result LatticeValues LineFault

@@ -1,5 +1,5 @@
-ghost use Rattle.std.specs.Prelude.{◌≡◌, ◌∷◌, [], IfErr, IfOk, Ok, map};
-ghost use Rattle.deck_shape.specs.Blocks.{BlockLines, block_at};
+ghost use Rattle.std.specs.Prelude.{◌≡◌, IfErr, IfOk, Ok};
+ghost use Rattle.deck_shape.specs.Blocks.{block_at};
 ghost use Rattle.deck_shape.specs.Shapes.{IsFaultOf, IsShapeOf};
 ghost use Rattle.deck_shape.specs.WholeBlocks.{IsLatticeForm, IsWhole};
 ghost use Rattle.kmc_base.specs.declared.ids.FileId.TheVariants.{Lattice};
@@ -38,12 +38,9 @@ fn read_block(alloc: Global, bytes: &[u8], block: &Block) -> Result<LatticePart,
 /// where that number has none itself. A type word that is no type is no fault here: its site has type 0 in the graph.
 pub fn read(alloc: Global, bytes: &[u8], shape: &Shape) -> Result<LatticePart, DeckFault>
     requires { IsShapeOf Lattice bytes.now shape.now }
-    ensures values { (block : BlockLines) → map (block_at bytes.now) shape.now.blocks ≡ block ∷ []
-        → IfOk result (λ part. part_of block ≡ Ok (values_at bytes.now part)) }
-    ensures sound { (block : BlockLines) → map (block_at bytes.now) shape.now.blocks ≡ block ∷ []
-        → IfOk result (λ _. AreFaultless block.form block.items) }
-    ensures fault { (block : BlockLines) → map (block_at bytes.now) shape.now.blocks ≡ block ∷ []
-        → IfErr result (IsFaultOf Lattice (part_of block)) }
+    ensures values { IfOk result (λ part. part_of (block_at bytes.now shape.now.block) ≡ Ok (values_at bytes.now part)) }
+    ensures sound { IfOk result (λ _. AreFaultless shape.now.block.form (block_at bytes.now shape.now.block).items) }
+    ensures fault { IfErr result (IsFaultOf Lattice (part_of (block_at bytes.now shape.now.block))) }
 {
-    read_block(alloc, bytes, shape.block())
+    read_block(alloc, bytes, &shape.block)
 }

@@ -290,9 +290,6 @@ pub(crate) fn values_of(
         BlockForm::DefaultChoice => default_part(alloc, block, bytes),
         BlockForm::PeriodicCell => cell_part(alloc, block, bytes),
         BlockForm::Explicit => explicit_part(alloc, block, bytes),
-        BlockForm::Simulation
-        | BlockForm::LatticeFile
-        | BlockForm::NeighboringStructure
-        | BlockForm::LatticeStructure => unreachable!(),
+        _ => unreachable!(),
     }
 }

@@ -1,5 +1,5 @@
-ghost use Rattle.std.specs.Prelude.{ℕ, List, ◌≡◌, ◌∷◌, [], IfErr, IfOk, Ok, map};
-ghost use Rattle.deck_shape.specs.Blocks.{BlockLines, block_at};
+ghost use Rattle.std.specs.Prelude.{ℕ, List, ◌≡◌, IfErr, IfOk, Ok};
+ghost use Rattle.deck_shape.specs.Blocks.{block_at};
 ghost use Rattle.deck_shape.specs.Shapes.{IsFaultOf};
 ghost use Rattle.deck_words.specs.Faults.{value_map};
 ghost use Rattle.kmc_base.specs.declared.ids.FileId.TheVariants.{Simulation};
@@ -60,13 +60,11 @@ fn part_of(
 /// hold at the first faulty line the least is the fault. The length of a list is checked where the number of species
 /// has no fault itself.
 pub fn read(alloc: Global, bytes: &[u8], shape: &Shape) -> Result<SimPart, DeckFault>
-    ensures values { (block : BlockLines) → map (block_at bytes.now) shape.now.blocks ≡ block ∷ []
-        → IfOk result (λ part. part_of block ≡ Ok (values_at bytes.now part)) }
+    ensures values { IfOk result (λ part. part_of (block_at bytes.now shape.now.block) ≡ Ok (values_at bytes.now part)) }
     ensures sound { IfOk result (λ part. IsSoundPart (values_at bytes.now part)) }
-    ensures fault { (block : BlockLines) → map (block_at bytes.now) shape.now.blocks ≡ block ∷ []
-        → IfErr result (IsFaultOf Simulation (part_of block)) }
+    ensures fault { IfErr result (IsFaultOf Simulation (part_of (block_at bytes.now shape.now.block))) }
 {
-    match part_of(alloc, bytes, shape.block())? {
+    match part_of(alloc, bytes, &shape.block)? {
         Ok(part) => Ok(part),
         Err(LineFault { line, kind }) => Err(DeckFault::Fault(Fault {
             file: FileId::Simulation,

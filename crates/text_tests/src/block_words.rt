@@ -7,7 +7,7 @@ use deck_shape::Role::{self, BeginsLattice, Closes, Encloses, Rows, Unsupported,
 use deck_shape::{BlockForm, Keyword, Rule};
 
 /// A word, how many arguments it takes, whether it may be given once only, whether it is needed, and what it does.
-type Row = (Keyword, Arguments, bool, Need, Role);
+pub(crate) type Row = (Keyword, Arguments, bool, Need, Role);
 
 const SIMULATION: [Row; 21] = [
     (RandomSeed, Exactly(1), true, Optional, Value),
@@ -101,7 +101,7 @@ fn is_rule(rule: &Rule, row: &Row) -> bool {
 }
 
 /// The words of a block are those of these rows.
-fn has_rules(form: BlockForm, rows: &[Row]) -> bool {
+pub(crate) fn has_rules(form: BlockForm, rows: &[Row]) -> bool {
     let rules = form.rules();
     if rules.len() != rows.len() {
         return false;

@@ -2,7 +2,7 @@
 
 use deck_shape::kind::*;
 
-const KINDS: [(u8, u8); 28] = [
+const KINDS: [(u8, u8); 36] = [
     (NOT_BUILT, 0),
     (FILE_ABSENT, 1),
     (FILE_TOO_LONG, 2),
@@ -24,13 +24,21 @@ const KINDS: [(u8, u8); 28] = [
     (REPEATED_NAME, 18),
     (BAD_NAME, 19),
     (BAD_EDGE, 20),
+    (NOT_CONNECTED, 21),
+    (DOUBLE_DENTATE, 22),
+    (TWO_SPECIES, 23),
     (REPEATED_SITE, 24),
     (BAD_SITE, 25),
     (SELF_NEIGHBOUR, 26),
     (TOO_MANY_NEIGHBOURS, 27),
     (ONE_SIDED, 28),
     (TOO_MANY_SITES, 29),
+    (TOO_MANY_PARTS, 30),
+    (UNKNOWN_SPECIES, 31),
+    (UNKNOWN_GAS, 32),
     (UNKNOWN_TYPE, 33),
+    (BAD_DENTATE, 34),
+    (MISSING_DENTATE, 35),
 ];
 
 #[test]

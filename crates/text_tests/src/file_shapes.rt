@@ -12,10 +12,7 @@ fn outline(rt: &HostRuntime, file: FileId, text: &[u8]) -> Result<(usize, u32), 
         return Err((0, 0));
     }
     match read_shape(rt.alloc(), file, text) {
-        Ok(shape) => match shape.blocks.as_slice() {
-            [block] => Ok((block.items.len(), block.end_line)),
-            _ => Err((0, 0)),
-        },
+        Ok(shape) => Ok((shape.block.items.len(), shape.block.end_line)),
         Err(DeckFault::Fault(fault)) if fault.file == file => Err((fault.line, fault.kind)),
         Err(_) => Err((0, 0)),
     }
@@ -325,22 +322,21 @@ const LATTICE: &[u8] =
 fn words_and_rows(rt: HostRuntime) -> Result<(), Fail> {
     assert_eq!(rt; outline(&rt, FileId::Lattice, LATTICE), Ok((7, 13)));
     let shape = read_shape(rt.alloc(), FileId::Lattice, LATTICE)?;
-    for block in shape.blocks.as_slice() {
-        assert_eq!(rt; block.form, BlockForm::PeriodicCell);
-        assert_eq!(rt; block.line, 1);
-        assert_eq!(rt; block.word.bytes(LATTICE), b"lattice".as_slice());
-        assert_eq!(rt; block.name.bytes(LATTICE), b"periodic_cell".as_slice());
-        let vectors = block.item(LATTICE, Keyword::CellVectors).map(|item| (
-            item.line.number,
-            item.arguments().len(),
-            item.rows.len(),
-        ));
-        assert_eq!(rt; vectors, Some((2, 0, 2)));
-        let head = block
-            .item(LATTICE, Keyword::CellVectors)
-            .map(|item| item.head(LATTICE));
-        assert_eq!(rt; head, Some(b"cell_vectors".as_slice()));
-        assert!(rt; block.item(LATTICE, Keyword::SiteCoordinates).is_none());
-    }
+    let block = &shape.block;
+    assert_eq!(rt; block.form, BlockForm::PeriodicCell);
+    assert_eq!(rt; block.line, 1);
+    assert_eq!(rt; block.word.bytes(LATTICE), b"lattice".as_slice());
+    assert_eq!(rt; block.name.bytes(LATTICE), b"periodic_cell".as_slice());
+    let vectors = block.item(LATTICE, Keyword::CellVectors).map(|item| (
+        item.line.number,
+        item.arguments().len(),
+        item.rows.len(),
+    ));
+    assert_eq!(rt; vectors, Some((2, 0, 2)));
+    let head = block
+        .item(LATTICE, Keyword::CellVectors)
+        .map(|item| item.head(LATTICE));
+    assert_eq!(rt; head, Some(b"cell_vectors".as_slice()));
+    assert!(rt; block.item(LATTICE, Keyword::SiteCoordinates).is_none());
     Ok(())
 }

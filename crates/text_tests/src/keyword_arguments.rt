@@ -13,21 +13,20 @@ fn lists_and_names(rt: HostRuntime) -> Result<(), Fail> {
     let text: &[u8] =
         b"lattice explicit\nn_sites 1\nn_site_types 2\nsite_type_names top hollow\nlattice_structure\n1 0 0 top 0\nend_lattice_structure\nend_lattice\n";
     let shape = read_shape(rt.alloc(), FileId::Lattice, text)?;
-    for block in shape.blocks.as_slice() {
-        let behind = block
-            .words_behind(text, Keyword::NSites)
-            .map(|words| words.len());
-        assert_eq!(rt; behind, Some(1));
-        assert!(rt; block.words_behind(text, Keyword::MaxCoord).is_none());
-        let list = block.list_in(text, Keyword::SiteTypeNames);
-        assert_eq!(rt; list.len(), 2);
-        let names = block.names_in(rt.alloc(), text, Keyword::SiteTypeNames)?;
-        assert_eq!(rt; names.len(), 2);
-        for (name, (span, word)) in names.iter().zip(list.iter().zip(["top", "hollow"])) {
-            assert_eq!(rt; name.span, *span);
-            assert_eq!(rt; name.line, 4);
-            assert_eq!(rt; span.bytes(text), word.as_bytes());
-        }
+    let block = &shape.block;
+    let behind = block
+        .words_behind(text, Keyword::NSites)
+        .map(|words| words.len());
+    assert_eq!(rt; behind, Some(1));
+    assert!(rt; block.words_behind(text, Keyword::MaxCoord).is_none());
+    let list = block.list_in(text, Keyword::SiteTypeNames);
+    assert_eq!(rt; list.len(), 2);
+    let names = block.names_in(rt.alloc(), text, Keyword::SiteTypeNames)?;
+    assert_eq!(rt; names.len(), 2);
+    for (name, (span, word)) in names.iter().zip(list.iter().zip(["top", "hollow"])) {
+        assert_eq!(rt; name.span, *span);
+        assert_eq!(rt; name.line, 4);
+        assert_eq!(rt; span.bytes(text), word.as_bytes());
     }
     Ok(())
 }

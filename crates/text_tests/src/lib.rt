@@ -14,6 +14,10 @@ mod keyword_arguments;
 #[cfg(test)]
 mod lines_of_text;
 #[cfg(test)]
+mod nested_blocks;
+#[cfg(test)]
+mod nested_words;
+#[cfg(test)]
 mod numbers;
 #[cfg(test)]
 mod plain_form;

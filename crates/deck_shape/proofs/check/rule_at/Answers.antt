@@ -13,6 +13,6 @@ returns-else-begins_row c =
     let word : c.bytes-word.result.now ≡ head_of line = c.bytes-word.ensures ∙ ap (λ r. r.bytes) (c.head.ensures text) in
     let no_row : is_row line ≡ false = ap begins_row (sym word) ∙ sym c.begins_row.ensures ∙ c.if-begins_row.false in
     c.rule_for.ensures
-    ∙ ap (rule_for c.block.result) word
-    ∙ ap (λ form. rule_for form (head_of line)) (c.block.ensures text)
+    ∙ ap (rule_for c.form.result) word
+    ∙ ap (λ form. rule_for form (head_of line)) (c.form.ensures text)
     ∙ sym (word_rule (reading_at text c.args.reading.now) line no_row)

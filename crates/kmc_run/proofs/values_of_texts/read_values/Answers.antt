@@ -21,4 +21,4 @@ returns-clause-values c =
       lines_read Simulation SimulationBlock c.args.simulation.now _ refl s,
       lines_read Lattice LatticeBlock c.args.lattice.now _ refl l,
     )
-    (c.read_parts.ensures.values s.block l.block s.one l.one)
+    c.read_parts.ensures.values

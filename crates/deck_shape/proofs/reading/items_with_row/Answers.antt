@@ -3,7 +3,7 @@ use Rattle.dec_text.specs.Spans.{line_at}
 use Rattle.deck_shape.proofs.Rows.{row_pushed}
 use Rattle.deck_shape.specs.Blocks.{item_at, with_row}
 use Rattle.deck_shape.specs.declared.shape.Item.{Item}
-use Rattle.deck_shape.proofs.reading.with_row.Goals as goal
+use Rattle.deck_shape.proofs.reading.items_with_row.Goals as goal
 
 pub returns : goal.returns
 returns c text =

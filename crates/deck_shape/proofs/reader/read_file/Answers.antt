@@ -4,7 +4,7 @@ use Rattle.dec_text.specs.Spans.{line_at}
 use Rattle.deck_shape.proofs.PassedLines.{passed_line}
 use Rattle.deck_shape.specs.LineFaults.{closes_file, fault_at, line_count, read_below}
 use Rattle.deck_shape.specs.Views.{reading_at}
-use Rattle.deck_shape.proofs.reader.read_block.Goals as goal
+use Rattle.deck_shape.proofs.reader.read_file.Goals as goal
 
 pub loop-reading-preserved : goal.loop-reading-preserved
 loop-reading-preserved c =
