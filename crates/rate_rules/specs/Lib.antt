@@ -1,0 +1,9 @@
+pub mod Barrier
+pub mod Energy
+pub mod Factor
+pub mod Held
+pub mod Rate
+pub mod Reaction
+pub mod Sides
+pub mod Soundness
+pub mod System
