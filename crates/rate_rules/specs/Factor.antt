@@ -1,7 +1,7 @@
 -- The factor of a process: its pre-exponential factor times pressure times molar fraction for each gas molecule that it
 -- consumes, and for a reverse process divided by the ratio of the two pre-exponential factors. It is kept as the base-2
 -- logarithm in units of 2^-30, which is None where one of these numbers is 0.
-use Rattle.std.specs.Prelude.{ℕ, zero, suc, ℤ, pos, ◌+ℤ◌, ◌*ℤ◌, neg_ℤ, List, Option, None, Some, if◌then◌else◌}
+use Rattle.std.specs.Prelude.{ℕ, ◌==◌, ℤ, pos, ◌+ℤ◌, ◌*ℤ◌, neg_ℤ, List, Option, None, Some, if◌then◌else◌}
 use Rattle.std.specs.List.{fold}
 use Rattle.std.specs.Option.{option_map}
 use Rattle.dec_text.specs.Decimals.{Scientific}
@@ -17,10 +17,9 @@ product_lg None y = None
 product_lg (Some x) None = None
 product_lg (Some x) (Some y) = Some (x +ℤ y)
 
--- the logarithm of a number to a power
+-- the logarithm of a number to a power; to the power 0 it is 1, also where the number is 0
 abbrev pub power_lg : Option ℤ → ℕ → Option ℤ
-power_lg lg zero = Some (pos 0)
-power_lg lg (suc n) = option_map (λ x. x *ℤ pos (suc n)) lg
+power_lg lg power = if power == 0 then Some (pos 0) else option_map (λ x. x *ℤ pos power) lg
 
 -- what the molecules that are consumed of one gas add, by its molar fraction and their number
 abbrev pub consumed_lg : Scientific → Scientific × ℕ → Option ℤ

@@ -1,4 +1,5 @@
-ghost use Rattle.std.specs.Prelude.{◌≡◌, ◌*◌, ◌^◌, ◌≤◌, pos, ◌≤ℤ◌, unsigned_abs};
+ghost use Rattle.std.specs.Prelude.{◌≡◌, ◌*◌, ◌^◌, ◌≤◌, pos, ◌*ℤ◌, ◌≤ℤ◌, unsigned_abs};
+ghost use Rattle.std.specs.Int.{int_div_euclid};
 ghost use Rattle.rate_rules.specs.Barrier.{barrier_of, forward_barrier, shifted_activation};
 ghost use Rattle.rate_rules.specs.Soundness.{HasSoundNumbers};
 
@@ -6,6 +7,16 @@ use crate::chemistry::Process;
 
 /// The unit of a proximity factor is one over this number.
 const PROXIMITY_UNIT: i128 = 1_000_000_000;
+
+/// The proximity factor times a change of energy, rounded toward minus infinity.
+fn shift(proximity: u32, change: i128) -> i128
+    requires proximity { proximity ≤ 10 ^ 9 }
+    requires change { unsigned_abs change ≤ 2 * 10 ^ 18 }
+    ensures value { result ≡ int_div_euclid (pos proximity *ℤ change) (pos (10 ^ 9)) }
+    ensures range { unsigned_abs result ≤ 2 * 10 ^ 18 }
+{
+    (i128::from(proximity) * change).div_euclid(PROXIMITY_UNIT)
+}
 
 /// The activation energy of a forward step, shifted by the proximity factor times the change of its reaction energy.
 fn shifted_activation(process: &Process, d: i128, d0: i128) -> i128
@@ -15,8 +26,7 @@ fn shifted_activation(process: &Process, d: i128, d0: i128) -> i128
     ensures value { result ≡ shifted_activation process.now d d0 }
     ensures range { unsigned_abs result ≤ 3 * 10 ^ 18 }
 {
-    let shift = i128::from(process.proximity) * (d - d0);
-    i128::from(process.activation) + shift.div_euclid(PROXIMITY_UNIT)
+    i128::from(process.activation) + shift(process.proximity, d - d0)
 }
 
 /// The barrier of a forward step.

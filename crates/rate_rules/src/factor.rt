@@ -24,10 +24,9 @@ fn product_lg(first: Option<i64>, second: Option<i64>) -> Option<i64>
     requires second { ForSome second (λ lg. unsigned_abs lg ≤ 2 ^ 61) }
     ensures { result ≡ product_lg first second }
 {
-    match (first, second) {
-        (Some(x), Some(y)) => Some(x + y),
-        _ => None,
-    }
+    let x = first?;
+    let y = second?;
+    Some(x + y)
 }
 
 /// The logarithm of a number to a power.
@@ -39,7 +38,8 @@ fn power_lg(lg: Option<i64>, power: u8) -> Option<i64>
     if power == 0 {
         return Some(0);
     }
-    Some(lg? * i64::from(power))
+    let lg = lg?;
+    Some(lg * i64::from(power))
 }
 
 /// The logarithm of what the molecules that are consumed of one gas add, by its molar fraction and their number.
@@ -57,7 +57,10 @@ fn inverse_lg(ratio: &Option<Decimal>) -> Option<i64>
 {
     match ratio {
         None => Some(0),
-        Some(ratio) => Some(-lg_of(ratio)?),
+        Some(ratio) => {
+            let lg = lg_of(ratio)?;
+            Some(-lg)
+        }
     }
 }
 
