@@ -1,1 +1,3 @@
+pub mod EnergySums
+pub mod ListingLengths
 pub mod Logarithms
