@@ -1,5 +1,5 @@
 -- Bounds on logarithms of products and powers.
-use Rattle.std.proofs.Common.{◌≡◌, ℕ, ◌+◌, ◌*◌, ◌^◌, ◌<◌, ◌≤◌, ℤ, pos, ◌+ℤ◌, ◌*ℤ◌, unsigned_abs, refl, sym, ap, ◌∙◌, arith, w64, to_z, of_z, FitsSigned}
+use Rattle.std.proofs.Common.{◌≡◌, ℕ, ◌+◌, ◌^◌, ◌<◌, ◌≤◌, ℤ, pos, ◌+ℤ◌, ◌*ℤ◌, unsigned_abs, refl, ◌∙◌, arith, w64, to_z, of_z, FitsSigned}
 use Rattle.std.proofs.Common.{Option, None, Some}
 use Rattle.std.specs.Option.{ForSome}
 use native.Mathlib.Nat.{mul-le-mul}

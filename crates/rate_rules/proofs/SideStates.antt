@@ -1,11 +1,12 @@
 -- The two sides of an instance as what firing makes of a configuration.
-use Rattle.std.proofs.Common.{◌≡◌, ◌≢◌, ℕ, ℤ, zero, ◌<◌, ◌≤◌, true, false, ◌&&◌, eqb, List, [], ◌∷◌, length, set, zip, All, AllPairs, map, suc, inl, inr, refl, sym, ap, ◌∙◌, subst, arith, replicate}
-use Rattle.std.proofs.Common.{Option, None, Some, unwrap_or}
+use Rattle.std.proofs.Common.{◌≡◌, ◌≢◌, ℕ, ℤ, zero, ◌<◌, true, false, ◌&&◌, eqb, List, [], ◌∷◌, length, set}
+use Rattle.std.proofs.Common.{zip, All, AllPairs, map, suc, inl, inr, refl, sym, ap, ◌∙◌, subst, arith, replicate}
+use Rattle.std.proofs.Common.{None, unwrap_or}
 use Rattle.std.proofs.Math.Path.{fun_ext}
 use Rattle.std.proofs.lemmas.Bool.{and_parts, both_ways, cases_Bool, eq-eqb, eqb-true, false_from_ne_true, or_parts}
 use Rattle.std.proofs.lemmas.List.{get_or_default, get_or-set_other, get_or-set_same, length-replicate, length-set}
 use Rattle.firing.proofs.Placed.{with-length}
-use Rattle.firing.specs.Firing.{CanFire, IsPlaced}
+use Rattle.firing.specs.Firing.{CanFire}
 use Rattle.firing.specs.Sides.{sites_from, state_for, states_for, with_states}
 use Rattle.kmc_base.specs.declared.ids.SiteId.{SiteId}
 use Rattle.lattice_core.proofs.Adsorbates.{later_different}
@@ -100,13 +101,14 @@ shown (t ∷ sites) (x ∷ given) states different inside s =
     (λ j d within. let there = inside (suc j) d (omega arith) in omega arith) s in
     elim (cases_Bool (eqb t s)) [
       | inl equal ↦
-      let same = eqb-true t s equal in
-      let none = given-none sites given s (subst (λ n. is_listed sites n ≡ false) same (first-once t sites different)) in
-      let here : state_at (set states t x) s ≡ x = subst (λ n. state_at (set states t x) n ≡ x) same (get_or-set_same states t x Free (inside 0 0 (omega arith))) in
-      rest ∙ rw (none, equal) here
+          let same = eqb-true t s equal in
+          let none = given-none sites given s (subst (λ n. is_listed sites n ≡ false) same (first-once t sites different)) in
+          let here : state_at (set states t x) s ≡ x = subst (λ n. state_at (set states t x) n ≡ x) same (get_or-set_same states t x Free
+          (inside 0 0 (omega arith))) in
+          rest ∙ rw (none, equal) here
       | inr other ↦
-      let apart : s ≢ t = λ e. both_ways _ other (eq-eqb t s (sym e)) in
-      rest ∙ rw (other, get_or-set_other states t s x Free apart) refl
+          let apart : s ≢ t = λ e. both_ways _ other (eq-eqb t s (sym e)) in
+          rest ∙ rw (other, get_or-set_other states t s x Free apart) refl
     ]
 
 -- the states of a side on its sites, over any states

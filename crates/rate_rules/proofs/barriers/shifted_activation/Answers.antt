@@ -1,4 +1,4 @@
-use Rattle.std.proofs.Common.{◌≡◌, ◌-ℤ◌, arith}
+use Rattle.std.proofs.Common.{arith}
 use Rattle.std.proofs.lemmas.Int.{to_z-of_z}
 use Rattle.rate_rules.proofs.barriers.shifted_activation.Goals as goal
 

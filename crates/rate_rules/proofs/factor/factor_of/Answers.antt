@@ -22,10 +22,10 @@ loop-gas-preserved c = record {
       ∙ ap (λ x. product_lg x c.consumed_lg.result) c.loop-gas.invariant.value
       ∙ ap (product_lg _) (c.consumed_lg.ensures.value ∙ ap (consumed_lg c.args.pressure.now) c.gas-item.is)
       ∙ sym (fold_more (λ lg gas. product_lg lg (consumed_lg c.args.pressure.now gas))
-        (product_lg (lg_of c.args.pre_exponential.now) (inverse_lg c.args.ratio.now)) c.args.consumed.now c.loop-gas.gas-index
-        c.gas-item.result c.loop-gas-test.true);
+      (product_lg (lg_of c.args.pre_exponential.now) (inverse_lg c.args.ratio.now)) c.args.consumed.now c.loop-gas.gas-index
+      c.gas-item.result c.loop-gas-test.true);
   range = λ x e.
       let within = product_lg-within c.loop-gas.lg c.consumed_lg.result (2 ^ 42 + c.loop-gas.gas-index * 2 ^ 50) (2 ^ 50)
-          c.loop-gas.invariant.range c.consumed_lg.ensures.range x (sym c.product_lg-lg-in-loop-gas.ensures ∙ e) in
+      c.loop-gas.invariant.range c.consumed_lg.ensures.range x (sym c.product_lg-lg-in-loop-gas.ensures ∙ e) in
       omega arith;
 }

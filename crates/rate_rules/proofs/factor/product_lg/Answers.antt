@@ -14,5 +14,5 @@ returns c =
     let a = c.requires.first c.in_ok-x.x c.in_ok-x.was in
     let b = c.requires.second c.in_ok-y.y c.in_ok-y.was in
     let sum : to_z w64 (of_z w64 (to_z w64 (of_z w64 c.in_ok-x.x) +ℤ to_z w64 (of_z w64 c.in_ok-y.y))) ≡ c.in_ok-x.x +ℤ c.in_ok-y.y
-        = omega (arith, ints) in
+    = omega (arith, ints) in
     rw (c.in_ok-x.was, c.in_ok-y.was) (ap Some sum)
