@@ -13,9 +13,9 @@ to LOG. When it has ended, these lines are added to LOG and printed:
 
 tools/gate_table.py makes the table of docs/GATE.md from LOG. The status is the command's.
 
-The processes below the command are looked at ten times a second, and each time counts for the crate that the
-command line or the folder of the process names. The total is exact; what a process uses after the last look at
-it, at most a tenth of a second, is counted as rest.
+The processes below the command are looked at ten times a second. What a process has used since the last look counts
+once, for the crate that its command line or its folder names now. The total is exact; what a process uses after the
+last look at it, at most a tenth of a second, is counted as rest.
 """
 
 import ctypes
@@ -75,10 +75,21 @@ def job_of(pid):
 
 
 class Times:
-    """The ticks of the processes that work for a crate, each with all that it starts."""
+    """The ticks of each crate and part: those of the processes that work for it, each with all that it starts."""
 
     def __init__(self):
         self.ticks = {}
+        # Of each process the ticks at the last look at it, and its job then.
+        self.seen = {}
+
+    def count(self, process, ticks, job):
+        """Counts what a process used since the last look at it, for its job, and returns that. It keeps a job that it had."""
+        before, last = self.seen.get(process, (0, None))
+        job = job or last
+        self.seen[process] = max(before, ticks), job
+        if job:
+            self.ticks[job] = self.ticks.get(job, 0) + max(0, ticks - before)
+        return job
 
     def look(self, top):
         """Goes over the processes below one."""
@@ -92,19 +103,12 @@ class Times:
         left = list(below.get(top, ()))
         while left:
             pid = left.pop()
-            job = job_of(pid)
-            if job:
-                key = pid, found[pid][1], *job
-                self.ticks[key] = max(self.ticks.get(key, 0), whole(pid))
-            else:
+            if not self.count((pid, found[pid][1]), whole(pid), job_of(pid)):
                 left += below.get(pid, ())
 
     def seconds(self):
         """Returns the seconds of each crate and part."""
-        sums = {}
-        for (_, _, *job), ticks in self.ticks.items():
-            sums[tuple(job)] = sums.get(tuple(job), 0) + ticks / TICKS
-        return sums
+        return {job: ticks / TICKS for job, ticks in self.ticks.items()}
 
 
 def measured(log, command):
