@@ -9,7 +9,7 @@ use deck_shape::{BlockForm, Keyword, Rule};
 /// A word, how many arguments it takes, whether it may be given once only, whether it is needed, and what it does.
 pub(crate) type Row = (Keyword, Arguments, bool, Need, Role);
 
-const SIMULATION: [Row; 21] = [
+const SIMULATION: &[Row] = &[
     (RandomSeed, Exactly(1), true, Optional, Value),
     (Temperature, Exactly(1), true, Required, Value),
     (Pressure, Exactly(1), true, Required, Value),
@@ -33,9 +33,9 @@ const SIMULATION: [Row; 21] = [
     (Finish, Exactly(0), true, Optional, Closes),
 ];
 
-const LATTICE_FILE: [Row; 1] = [(Lattice, Exactly(1), true, Optional, BeginsLattice)];
+const LATTICE_FILE: &[Row] = &[(Lattice, Exactly(1), true, Optional, BeginsLattice)];
 
-const DEFAULT_CHOICE: [Row; 4] = [
+const DEFAULT_CHOICE: &[Row] = &[
     (
         RectangularPeriodic,
         Exactly(3),
@@ -54,7 +54,7 @@ const DEFAULT_CHOICE: [Row; 4] = [
     (EndLattice, Exactly(0), true, Optional, Closes),
 ];
 
-const PERIODIC_CELL: [Row; 9] = [
+const PERIODIC_CELL: &[Row] = &[
     (CellVectors, Exactly(0), true, Optional, Rows),
     (RepeatCell, Exactly(2), true, Required, Value),
     (NCellSites, Exactly(1), true, Required, Value),
@@ -72,7 +72,7 @@ const PERIODIC_CELL: [Row; 9] = [
     (EndLattice, Exactly(0), true, Optional, Closes),
 ];
 
-const EXPLICIT: [Row; 6] = [
+const EXPLICIT: &[Row] = &[
     (NSites, Exactly(1), true, Required, Value),
     (MaxCoord, Exactly(1), true, Optional, Value),
     (NSiteTypes, Exactly(1), true, Required, Value),
@@ -87,17 +87,19 @@ const EXPLICIT: [Row; 6] = [
     (EndLattice, Exactly(0), true, Optional, Closes),
 ];
 
-const NEIGHBORING_ROWS: [Row; 1] = [(EndNeighboringStructure, Exactly(0), true, Optional, Closes)];
+const NEIGHBORING_ROWS: &[Row] = &[(EndNeighboringStructure, Exactly(0), true, Optional, Closes)];
 
-const LATTICE_ROWS: [Row; 1] = [(EndLatticeStructure, Exactly(0), true, Optional, Closes)];
+const LATTICE_ROWS: &[Row] = &[(EndLatticeStructure, Exactly(0), true, Optional, Closes)];
 
 /// A rule is that of a row.
 fn is_rule(rule: &Rule, row: &Row) -> bool {
-    rule.keyword == row.0
-        && rule.arguments == row.1
-        && rule.is_once == row.2
-        && rule.need == row.3
-        && rule.role == row.4
+    (
+        rule.keyword,
+        rule.arguments,
+        rule.is_once,
+        rule.need,
+        rule.role,
+    ) == *row
 }
 
 /// The words of a block are those of these rows.
@@ -117,19 +119,19 @@ pub(crate) fn has_rules(form: BlockForm, rows: &[Row]) -> bool {
 #[test]
 fn words_of_blocks(rt: HostRuntime) {
     for (form, rows) in [
-        (BlockForm::Simulation, SIMULATION.as_slice()),
-        (BlockForm::LatticeFile, &LATTICE_FILE),
-        (BlockForm::DefaultChoice, &DEFAULT_CHOICE),
-        (BlockForm::PeriodicCell, &PERIODIC_CELL),
-        (BlockForm::Explicit, &EXPLICIT),
-        (BlockForm::NeighboringStructure, &NEIGHBORING_ROWS),
-        (BlockForm::LatticeStructure, &LATTICE_ROWS),
+        (BlockForm::Simulation, SIMULATION),
+        (BlockForm::LatticeFile, LATTICE_FILE),
+        (BlockForm::DefaultChoice, DEFAULT_CHOICE),
+        (BlockForm::PeriodicCell, PERIODIC_CELL),
+        (BlockForm::Explicit, EXPLICIT),
+        (BlockForm::NeighboringStructure, NEIGHBORING_ROWS),
+        (BlockForm::LatticeStructure, LATTICE_ROWS),
     ] {
         assert!(rt; has_rules(form, rows), "{form:?}");
     }
 }
 
-const SPELLINGS: [(Keyword, &str); 39] = [
+const SPELLINGS: &[(Keyword, &str)] = &[
     (RandomSeed, "random_seed"),
     (Temperature, "temperature"),
     (Pressure, "pressure"),

@@ -2,7 +2,7 @@
 
 use deck_shape::kind::*;
 
-const KINDS: [(u8, u8); 36] = [
+const KINDS: &[(u8, u8)] = &[
     (NOT_BUILT, 0),
     (FILE_ABSENT, 1),
     (FILE_TOO_LONG, 2),
@@ -44,6 +44,6 @@ const KINDS: [(u8, u8); 36] = [
 #[test]
 fn kinds_by_number(rt: HostRuntime) {
     for (kind, number) in KINDS {
-        assert_eq!(rt; kind, number);
+        assert_eq!(rt; *kind, *number);
     }
 }

@@ -53,7 +53,9 @@ fn gives_line_after_line(rt: HostRuntime) -> Result<(), Fail> {
     );
     let second = next_line(rt.alloc(), text, &mut place)?;
     assert_eq!(rt; outline(second), Some((5, 1)));
+    let last = place;
     let third = next_line(rt.alloc(), text, &mut place)?;
     assert_eq!(rt; outline(third), None);
+    assert_eq!(rt; place, last);
     Ok(())
 }

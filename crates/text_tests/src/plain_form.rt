@@ -8,7 +8,7 @@ use std::test::Fail;
 
 #[test]
 fn energetics_files(rt: HostRuntime) -> Result<(), Fail> {
-    const CASES: [(&[u8], bool); 6] = [
+    const CASES: &[(&[u8], bool)] = &[
         (b"energetics\nend_energetics\n", true),
         (b"energetics\nend_energetics", false),
         (b"energetics\n\nend_energetics\n", false),
@@ -17,13 +17,13 @@ fn energetics_files(rt: HostRuntime) -> Result<(), Fail> {
         (b"end_energetics\n", false),
     ];
     for (text, plain) in CASES {
-        assert_eq!(rt; is_energetics(text), plain);
+        assert_eq!(rt; is_energetics(*text), *plain);
     }
     Ok(())
 }
 
 /// A book of a gas species and three surface species, of which the last has two dentates.
-fn book(alloc: Global) -> Result<SpeciesBook, AllocError> {
+pub(crate) fn book(alloc: Global) -> Result<SpeciesBook, AllocError> {
     let gas = vec![in alloc; Vec::from_slice(alloc, b"G")?]?;
     let first = Vec::from_slice(alloc, b"A*")?;
     let second = Vec::from_slice(alloc, b"B*")?;
@@ -76,12 +76,14 @@ type Read = (
 fn is_one_step(steps: Option<Vec<StepText>>, read: Read) -> bool {
     match steps.as_deref() {
         Some([step]) => {
-            step.label == read.0
-                && step.before == read.1
-                && step.after == read.2
-                && step.digits == read.3
-                && step.power == read.4
-                && step.activation == read.5
+            (
+                step.label,
+                step.before,
+                step.after,
+                step.digits,
+                step.power,
+                step.activation,
+            ) == read
         }
         _ => false,
     }
@@ -89,7 +91,7 @@ fn is_one_step(steps: Option<Vec<StepText>>, read: Read) -> bool {
 
 #[test]
 fn mechanism_files(rt: HostRuntime) -> Result<(), Fail> {
-    const CASES: [(usize, &str, Read); 8] = [
+    const CASES: &[(usize, &str, Read)] = &[
         (11, "", (b"adsorb", VACANT, FIRST, 1, 300, 0)),
         (1, "step *\n", (b"*", VACANT, FIRST, 1, 300, 0)),
         (4, "1 B* 1\n", (b"adsorb", SECOND, FIRST, 1, 300, 0)),
@@ -110,15 +112,15 @@ fn mechanism_files(rt: HostRuntime) -> Result<(), Fail> {
     let alloc = rt.alloc();
     let book = book(alloc)?;
     for (place, lines, read) in CASES {
-        let text = mechanism_with(alloc, place, lines)?;
-        assert!(rt; is_one_step(read_mechanism(alloc, &book, &text)?, read));
+        let text = mechanism_with(alloc, *place, *lines)?;
+        assert!(rt; is_one_step(read_mechanism(alloc, &book, &text)?, *read));
     }
     Ok(())
 }
 
 #[test]
 fn other_mechanism_files(rt: HostRuntime) -> Result<(), Fail> {
-    const CASES: [(usize, &str); 17] = [
+    const CASES: &[(usize, &str)] = &[
         (1, "step abcdefghijklmnopqrstuvwxyz0123456\n"),
         (1, "step\n"),
         (2, "sites 2\n"),
@@ -140,7 +142,7 @@ fn other_mechanism_files(rt: HostRuntime) -> Result<(), Fail> {
     let alloc = rt.alloc();
     let book = book(alloc)?;
     for (place, lines) in CASES {
-        let text = mechanism_with(alloc, place, lines)?;
+        let text = mechanism_with(alloc, *place, *lines)?;
         assert!(rt; read_mechanism(alloc, &book, &text)?.is_none());
     }
     Ok(())
@@ -162,7 +164,7 @@ fn steps_of(alloc: Global, labels: &[u8]) -> Result<Vec<u8>, AllocError> {
 
 #[test]
 fn numbers_of_steps(rt: HostRuntime) -> Result<(), Fail> {
-    const CASES: [(&[u8], Option<usize>); 4] = [
+    const CASES: &[(&[u8], Option<usize>)] = &[
         (b"abcdefghijklmnop", Some(16)),
         (b"abcdefghijklmnopq", None),
         (b"", None),
@@ -171,9 +173,9 @@ fn numbers_of_steps(rt: HostRuntime) -> Result<(), Fail> {
     let alloc = rt.alloc();
     let book = book(alloc)?;
     for (labels, count) in CASES {
-        let text = steps_of(alloc, labels)?;
+        let text = steps_of(alloc, *labels)?;
         let steps = read_mechanism(alloc, &book, &text)?;
-        assert_eq!(rt; steps.map(|steps| steps.len()), count);
+        assert_eq!(rt; steps.map(|steps| steps.len()), *count);
     }
     Ok(())
 }

@@ -1,7 +1,7 @@
 //! The values of simulation files, and their faults.
 
 use dec_text::Decimal;
-use deck_shape::{DeckFault, Fault, read_shape};
+use deck_shape::{DeckFault, Fault, Name, read_shape};
 use kmc_base::{FileId, OutOfMemory};
 use sim_deck::{Plan, Sampling, SimPart, read};
 use std::alloc::{AllocError, Global};
@@ -25,8 +25,19 @@ fn fault_of(alloc: Global, text: &[u8]) -> Result<Option<(u32, u8)>, OutOfMemory
     }
 }
 
+/// The plan of a text.
+fn plan_of(alloc: Global, text: &[u8]) -> Result<Plan, DeckFault> {
+    Ok(read_text(alloc, text)?.plan)
+}
+
+/// The temperature and the pressure of a text.
+fn gas_phase_of(alloc: Global, text: &[u8]) -> Result<(u32, Decimal), DeckFault> {
+    let part = read_text(alloc, text)?;
+    Ok((part.temperature, part.pressure))
+}
+
 /// Lines above those of a whole file, and the line and the kind of the fault.
-const FAULTS: [(&str, u32, u8); 39] = [
+const FAULTS: &[(&str, u32, u8)] = &[
     ("max_time x\n", 1, 11),
     ("snapshots on time x\n", 1, 11),
     ("n_gas_species 2\ngas_molar_fracs 2.0 x\n", 2, 11),
@@ -69,7 +80,7 @@ const FAULTS: [(&str, u32, u8); 39] = [
 ];
 
 /// Whole files with a fault of the kind 13, and its line.
-const OUT_OF_RANGE: [(&str, u32); 4] = [
+const OUT_OF_RANGE: &[(&str, u32)] = &[
     ("temperature 0.0004\npressure 1.0\nfinish\n", 1),
     ("temperature 10000.001\npressure 1.0\nfinish\n", 1),
     ("temperature 500.0\npressure 1000000001.0\nfinish\n", 2),
@@ -82,11 +93,16 @@ fn first_faults(rt: HostRuntime) -> Result<(), Fail> {
     for (lines, line, kind) in FAULTS {
         let text = format!(in alloc; "{lines}temperature 500.0\npressure 1.0\nfinish\n")?;
         let fault = fault_of(alloc, text.as_bytes())?;
-        assert_eq!(rt; fault, Some((line, kind)), "{lines}");
+        assert_eq!(rt; fault, Some((*line, *kind)), "{lines}");
     }
+    Ok(())
+}
+
+#[test]
+fn required_values_out_of_range(rt: HostRuntime) -> Result<(), Fail> {
     for (text, line) in OUT_OF_RANGE {
-        let fault = fault_of(alloc, text.as_bytes())?;
-        assert_eq!(rt; fault, Some((line, 13)), "{text}");
+        let fault = fault_of(rt.alloc(), text.as_bytes())?;
+        assert_eq!(rt; fault, Some((*line, 13)), "{text}");
     }
     Ok(())
 }
@@ -99,11 +115,12 @@ fn greatest_values(rt: HostRuntime) -> Result<(), Fail> {
     Ok(())
 }
 
+/// A file of the least values.
+const LEAST: &[u8] =
+    b"temperature 0.001\npressure 0\nn_surf_species 1\nsurf_specs_names C\nsurf_specs_dent 1\nsnapshots on event\nprocess_statistics on event 1\nspecies_numbers on time 1e-18\nmax_steps 0\nmax_time 0\nwall_time 0\nfinish\n";
+
 #[test]
 fn least_values(rt: HostRuntime) -> Result<(), Fail> {
-    let text =
-        b"temperature 0.001\npressure 0\nn_surf_species 1\nsurf_specs_names C\nsurf_specs_dent 1\nsnapshots on event\nprocess_statistics on event 1\nspecies_numbers on time 1e-18\nmax_steps 0\nmax_time 0\nwall_time 0\nfinish\n";
-    let part = read_text(rt.alloc(), text)?;
     let plan = Plan {
         seed: 0,
         max_steps: 0,
@@ -112,8 +129,8 @@ fn least_values(rt: HostRuntime) -> Result<(), Fail> {
         procstat: Sampling::Event(1),
         specnum: Sampling::Time(1),
     };
-    assert_eq!(rt; part.plan, plan);
-    assert_eq!(rt; part.temperature, 1);
+    assert_eq!(rt; plan_of(rt.alloc(), LEAST)?, plan);
+    assert_eq!(rt; gas_phase_of(rt.alloc(), LEAST)?.0, 1);
     Ok(())
 }
 
@@ -168,8 +185,7 @@ fn lengths_of_lists(rt: HostRuntime) -> Result<(), Fail> {
 
 #[test]
 fn default_values(rt: HostRuntime) -> Result<(), Fail> {
-    let alloc = rt.alloc();
-    let bare = read_text(alloc, b"temperature 500.0\npressure -0.0\nfinish\n")?;
+    let text = b"temperature 500.0\npressure -0.0\nfinish\n";
     let open = Plan {
         seed: 0,
         max_steps: 1_099_511_627_775,
@@ -178,38 +194,43 @@ fn default_values(rt: HostRuntime) -> Result<(), Fail> {
         procstat: Sampling::Off,
         specnum: Sampling::Off,
     };
-    assert_eq!(rt; bare.plan, open);
-    assert_eq!(rt;
-        bare.pressure,
-        Decimal {
-            negative: false,
-            digits: 0,
-            power: 0
-        }
-    );
-    let long = read_text(
-        alloc,
-        b"temperature 500.0\npressure 1.0\nmax_steps infinity\nmax_time 1e12\nwall_time infinity\nfinish\n",
-    )?;
-    assert_eq!(rt; long.plan.max_steps, 1_099_511_627_775);
-    assert_eq!(rt;
-        long.plan.max_time,
-        Some(1_000_000_000_000_000_000_000_000_000_000)
-    );
-    let endless = read_text(
-        alloc,
-        b"temperature 500.0\npressure 1.0\nmax_time infinity\nfinish\n",
-    )?;
-    assert_eq!(rt; endless.plan.max_time, None);
+    assert_eq!(rt; plan_of(rt.alloc(), text)?, open);
+    let pressure = Decimal {
+        negative: false,
+        digits: 0,
+        power: 0,
+    };
+    assert_eq!(rt; gas_phase_of(rt.alloc(), text)?.1, pressure);
     Ok(())
 }
 
+/// Lines of limits, and the greatest number of events and the time that they set.
+const LIMITS: &[(&str, u64, Option<u128>)] = &[
+    (
+        "max_steps infinity\nmax_time 1e12\nwall_time infinity\n",
+        1_099_511_627_775,
+        Some(1_000_000_000_000_000_000_000_000_000_000),
+    ),
+    ("max_time infinity\n", 1_099_511_627_775, None),
+];
+
 #[test]
-fn all_words(rt: HostRuntime) -> Result<(), Fail> {
+fn limits_without_end(rt: HostRuntime) -> Result<(), Fail> {
     let alloc = rt.alloc();
-    let text =
-        b"random_seed 953129\ntemperature 500.0\npressure 1.00\nn_gas_species 3\ngas_specs_names CO O2 CO2\ngas_energies 0.000 0.000 -2.337\ngas_molec_weights 27.9949 31.9898 43.9898\ngas_molar_fracs 0.45 0.55 0.000\nn_surf_species 2\nsurf_specs_names CO* O*\nsurf_specs_dent 1 1\nsnapshots on event 100\nprocess_statistics on event 100\nspecies_numbers on time 1.0e-6\nevent_report off\nmax_steps 500\nmax_time 1.0\nwall_time 3600\nno_restart\nfinish\n";
-    let part = read_text(alloc, text)?;
+    for (lines, max_steps, max_time) in LIMITS {
+        let text = format!(in alloc; "temperature 500.0\npressure 1.0\n{lines}finish\n")?;
+        let plan = plan_of(alloc, text.as_bytes())?;
+        assert_eq!(rt; (plan.max_steps, plan.max_time), (*max_steps, *max_time));
+    }
+    Ok(())
+}
+
+/// A file with each word.
+const ALL_WORDS: &[u8] =
+    b"random_seed 953129\ntemperature 500.0\npressure 1.00\nn_gas_species 3\ngas_specs_names CO O2 CO2\ngas_energies 0.000 0.000 -2.337\ngas_molec_weights 27.9949 31.9898 43.9898\ngas_molar_fracs 0.45 0.55 0.000\nn_surf_species 2\nsurf_specs_names CO* O*\nsurf_specs_dent 1 1\nsnapshots on event 100\nprocess_statistics on event 100\nspecies_numbers on time 1.0e-6\nevent_report off\nmax_steps 500\nmax_time 1.0\nwall_time 3600\nno_restart\nfinish\n";
+
+#[test]
+fn plan_of_all_words(rt: HostRuntime) -> Result<(), Fail> {
     let plan = Plan {
         seed: 953_129,
         max_steps: 500,
@@ -218,30 +239,39 @@ fn all_words(rt: HostRuntime) -> Result<(), Fail> {
         procstat: Sampling::Event(100),
         specnum: Sampling::Time(1_000_000_000_000),
     };
-    assert_eq!(rt; part.plan, plan);
-    assert_eq!(rt; part.temperature, 500_000);
-    assert_eq!(rt;
-        part.gas_energies.as_slice(),
-        [0, 0, -2_337_000_000].as_slice()
-    );
+    assert_eq!(rt; plan_of(rt.alloc(), ALL_WORDS)?, plan);
+    assert_eq!(rt; gas_phase_of(rt.alloc(), ALL_WORDS)?.0, 500_000);
+    Ok(())
+}
+
+#[test]
+fn lists_of_all_words(rt: HostRuntime) -> Result<(), Fail> {
+    let part = read_text(rt.alloc(), ALL_WORDS)?;
+    let energies = [0, 0, -2_337_000_000];
+    assert_eq!(rt; part.gas_energies.as_slice(), energies.as_slice());
     assert_eq!(rt; part.dentates.as_slice(), [1, 1].as_slice());
+    let half = Decimal {
+        negative: false,
+        digits: 55,
+        power: -2,
+    };
     assert_eq!(rt; part.gas_fractions.len(), 3);
-    if let [_, half, _] = part.gas_fractions.as_slice() {
-        assert_eq!(rt;
-            *half,
-            Decimal {
-                negative: false,
-                digits: 55,
-                power: -2
-            }
-        );
-    }
-    assert_eq!(rt; part.surface.len(), 2);
-    assert_eq!(rt; part.gas.len(), 3);
-    if let [_, oxygen, _] = part.gas.as_slice() {
-        assert_eq!(rt; oxygen.span.bytes(text), b"O2".as_slice());
-        assert_eq!(rt; oxygen.line, 5);
-    }
+    assert_eq!(rt; part.gas_fractions.as_slice().get(1), Some(&half));
+    Ok(())
+}
+
+/// The line and the word of the second of some names.
+fn second_name(names: &[Name]) -> Option<(u32, &'static [u8])> {
+    let name = names.get(1)?;
+    Some((name.line, name.span.bytes(ALL_WORDS)))
+}
+
+#[test]
+fn names_of_all_words(rt: HostRuntime) -> Result<(), Fail> {
+    let part = read_text(rt.alloc(), ALL_WORDS)?;
+    assert_eq!(rt; (part.gas.len(), part.surface.len()), (3, 2));
+    let second = second_name(part.gas.as_slice());
+    assert_eq!(rt; second, Some((5, b"O2".as_slice())));
     Ok(())
 }
 
