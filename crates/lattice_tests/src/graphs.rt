@@ -2,19 +2,24 @@ ghost use Rattle.std.specs.Prelude.{◌<◌};
 
 use kmc_base::SiteId;
 use lattice_core::{Graph, GraphFault};
-use std::alloc::Global;
+use std::alloc::{AllocError, Global};
 use std::process::Abort;
 use std::test::Fail;
+
+/// The list of a row of a text.
+fn list(alloc: Global, row: &str) -> Result<Vec<SiteId>, Fail> {
+    let mut list = Vec::new(alloc);
+    for word in row.split_whitespace() {
+        list.push(SiteId(word.parse::<u32>()?))?;
+    }
+    Ok(list)
+}
 
 /// The lists of a text: those of the sites are between bars, from site 0 on.
 fn lists(alloc: Global, text: &str) -> Result<Vec<Vec<SiteId>>, Fail> {
     let mut lists = Vec::new(alloc);
     for row in text.split('|') {
-        let mut list = Vec::new(alloc);
-        for word in row.split_whitespace() {
-            list.push(SiteId(word.parse::<u32>()?))?;
-        }
-        lists.push(list)?;
+        lists.push(list(alloc, row)?)?;
     }
     Ok(lists)
 }
@@ -32,6 +37,49 @@ pub(super) fn graph(
     Ok(Graph::new(types, lists))
 }
 
+/// The fault of the lists of a text.
+fn fault_of(rt: &impl Abort, alloc: Global, text: &str) -> Result<Option<GraphFault>, Fail> {
+    let lists = lists(alloc, text)?;
+    Ok(graph(rt, alloc, lists)?.err())
+}
+
+/// The site of a row and a column, both modulo the size of a grid.
+fn site_at(rows: u32, columns: u32, row: u32, column: u32) -> SiteId
+    requires rows { 0 < rows }
+    requires columns { 0 < columns }
+{
+    SiteId(
+        (row % rows)
+            .wrapping_mul(columns)
+            .wrapping_add(column % columns),
+    )
+}
+
+/// The neighbours of a site of a grid, which are these displacements away, forth and back.
+fn neighbours(
+    alloc: Global,
+    rows: u32,
+    columns: u32,
+    site: u32,
+    displacements: &[(u32, u32)],
+) -> Result<Vec<SiteId>, AllocError>
+    requires rows { 0 < rows }
+    requires columns { 0 < columns }
+{
+    let row = site / columns;
+    let column = site % columns;
+    let mut list = Vec::new(alloc);
+    for (down, right) in displacements {
+        let below = row.wrapping_add(*down);
+        let beside = column.wrapping_add(*right);
+        list.push(site_at(rows, columns, below, beside))?;
+        let above = row.wrapping_add(rows).wrapping_sub(*down);
+        let before = column.wrapping_add(columns).wrapping_sub(*right);
+        list.push(site_at(rows, columns, above, before))?;
+    }
+    Ok(list)
+}
+
 /// Sites in rows of so many columns, each joined to those at these displacements, both modulo the size.
 pub(super) fn grid(
     alloc: Global,
@@ -43,25 +91,14 @@ pub(super) fn grid(
     requires columns { 0 < columns }
 {
     let mut lists = Vec::new(alloc);
-    for row in 0..rows {
-        for column in 0..columns {
-            let mut list = Vec::new(alloc);
-            for (down, right) in displacements {
-                let below = row.wrapping_add(*down) % rows;
-                let beside = column.wrapping_add(*right) % columns;
-                list.push(SiteId(below.wrapping_mul(columns).wrapping_add(beside)))?;
-                let above = row.wrapping_add(rows).wrapping_sub(*down) % rows;
-                let before = column.wrapping_add(columns).wrapping_sub(*right) % columns;
-                list.push(SiteId(above.wrapping_mul(columns).wrapping_add(before)))?;
-            }
-            lists.push(list)?;
-        }
+    for site in 0..rows.wrapping_mul(columns) {
+        lists.push(neighbours(alloc, rows, columns, site, displacements)?)?;
     }
     Ok(lists)
 }
 
 /// The ball of these centres, in numbers from 1, as decks have them.
-fn deck_ball(
+pub(super) fn deck_ball(
     rt: &impl Abort,
     alloc: Global,
     graph: &Graph,
@@ -82,73 +119,99 @@ pub(super) const RECTANGULAR: &[(u32, u32)] = &[(0, 1), (1, 0)];
 
 const HEXAGONAL: &[(u32, u32)] = &[(0, 1), (1, 0), (1, 1)];
 
+/// The ball of radius 3 round two neighbours in the middle of a hexagonal lattice of ten by ten sites.
+pub(super) const BALL_OF_TWO: &[u32] = &[
+    22, 23, 24, 25, 26, 32, 33, 34, 35, 36, 37, 42, 43, 44, 45, 46, 47, 48, 52, 53, 54, 55, 56, 57,
+    58, 59, 63, 64, 65, 66, 67, 68, 69, 74, 75, 76, 77, 78, 79, 85, 86, 87, 88, 89,
+];
+
 #[test]
 fn balls_of_fired_sites(rt: HostRuntime) -> Result<(), Fail> {
     let alloc = rt.alloc();
-    let large = graph(&rt, alloc, grid(alloc, 10, 10, HEXAGONAL)?)?
-        .ok()
-        .ok_or("a fault")?;
-    let ball = deck_ball(&rt, alloc, &large, &[SiteId(55), SiteId(54), SiteId(55)], 3)?;
-    let mut wanted = Vec::new(alloc);
-    for (first, last) in [
-        (22, 26),
-        (32, 37),
-        (42, 48),
-        (52, 59),
-        (63, 69),
-        (74, 79),
-        (85, 89),
-    ] {
-        for number in first..=last {
-            wanted.push(number)?;
-        }
-    }
-    assert_eq!(rt; wanted.len(), 44);
-    assert_eq!(rt; ball.as_slice(), wanted.as_slice());
-    assert_eq!(rt; deck_ball(&rt, alloc, &large, &[], 3)?.len(), 0);
-    assert_eq!(rt;
-        deck_ball(&rt, alloc, &large, &[SiteId(99)], 0)?.as_slice(),
-        [100u32].as_slice()
-    );
-    assert_eq!(rt;
-        deck_ball(&rt, alloc, &large, &[SiteId(0)], u32::MAX)?.len(),
-        100
-    );
+    let made = graph(&rt, alloc, grid(alloc, 10, 10, HEXAGONAL)?)?;
+    let large = made.ok().ok_or("a fault")?;
+    let centres = [SiteId(55), SiteId(54), SiteId(55)];
+    let ball = deck_ball(&rt, alloc, &large, &centres, 3)?;
+    assert_eq!(rt; ball.as_slice(), BALL_OF_TWO);
+    Ok(())
+}
 
-    let small = graph(&rt, alloc, grid(alloc, 3, 3, HEXAGONAL)?)?
-        .ok()
-        .ok_or("a fault")?;
+#[test]
+fn balls_of_no_site_and_of_all_sites(rt: HostRuntime) -> Result<(), Fail> {
+    let alloc = rt.alloc();
+    let made = graph(&rt, alloc, grid(alloc, 10, 10, HEXAGONAL)?)?;
+    let large = made.ok().ok_or("a fault")?;
+    assert_eq!(rt; deck_ball(&rt, alloc, &large, &[], 3)?.len(), 0);
+    let last = deck_ball(&rt, alloc, &large, &[SiteId(99)], 0)?;
+    assert_eq!(rt; last.as_slice(), [100u32].as_slice());
+    let all = deck_ball(&rt, alloc, &large, &[SiteId(0)], u32::MAX)?;
+    assert_eq!(rt; all.len(), 100);
+    Ok(())
+}
+
+#[test]
+fn balls_on_a_small_lattice(rt: HostRuntime) -> Result<(), Fail> {
+    let alloc = rt.alloc();
+    let made = graph(&rt, alloc, grid(alloc, 3, 3, HEXAGONAL)?)?;
+    let small = made.ok().ok_or("a fault")?;
     let ball = deck_ball(&rt, alloc, &small, &[SiteId(0), SiteId(1)], 3)?;
     assert_eq!(rt; ball.as_slice(), [1u32, 2, 3, 4, 5, 6, 7, 8, 9].as_slice());
     Ok(())
 }
 
 #[test]
+fn neighbours_on_a_small_lattice(rt: HostRuntime) -> Result<(), Fail> {
+    let alloc = rt.alloc();
+    let made = graph(&rt, alloc, grid(alloc, 2, 2, RECTANGULAR)?)?;
+    let small = made.ok().ok_or("a fault")?;
+    assert!(rt; 0 < small.len());
+    let neighbours = [SiteId(1), SiteId(2)];
+    assert_eq!(rt; small.neighbours(SiteId(0)), neighbours.as_slice());
+    Ok(())
+}
+
+#[test]
 fn neighbours_and_slots(rt: HostRuntime) -> Result<(), Fail> {
     let alloc = rt.alloc();
-    let small = graph(&rt, alloc, grid(alloc, 2, 2, RECTANGULAR)?)?
-        .ok()
-        .ok_or("a fault")?;
-    assert!(rt; 0 < small.len());
-    assert_eq!(rt;
-        small.neighbours(SiteId(0)),
-        [SiteId(1), SiteId(2)].as_slice()
-    );
-
-    let graph = graph(&rt, alloc, grid(alloc, 5, 5, RECTANGULAR)?)?
-        .ok()
-        .ok_or("a fault")?;
+    let made = graph(&rt, alloc, grid(alloc, 5, 5, RECTANGULAR)?)?;
+    let graph = made.ok().ok_or("a fault")?;
     let site = SiteId(0);
     assert_eq!(rt; graph.len(), 25);
     assert_eq!(rt; graph.site_type(site), 7);
-    assert_eq!(rt;
-        graph.neighbours(site),
-        [SiteId(1), SiteId(4), SiteId(5), SiteId(20)].as_slice()
-    );
+    let neighbours = [SiteId(1), SiteId(4), SiteId(5), SiteId(20)];
+    assert_eq!(rt; graph.neighbours(site), neighbours.as_slice());
     assert_eq!(rt; graph.slot_of(site, SiteId(5)), Some(2));
     assert_eq!(rt; graph.slot_of(site, SiteId(6)), None);
     assert_eq!(rt; graph.at_slot(site, 2), Some(SiteId(5)));
     assert_eq!(rt; graph.at_slot(site, 4), None);
+    Ok(())
+}
+
+const FAULTS: &[(&str, Option<GraphFault>)] = &[
+    // one fault of each kind, and none
+    ("1 2|2 0|1 0 0", None),
+    ("2 9|0|0", Some(GraphFault::BadSite(0))),
+    ("1|0 1", Some(GraphFault::SelfNeighbour(1))),
+    ("1 2|0|", Some(GraphFault::OneSided(0, 2))),
+    ("2 1||", Some(GraphFault::OneSided(0, 1))),
+    ("1|0 2|", Some(GraphFault::OneSided(1, 2))),
+    // two faults of one site
+    ("0 9|", Some(GraphFault::BadSite(0))),
+    ("9 1|", Some(GraphFault::BadSite(0))),
+    ("1 0|", Some(GraphFault::SelfNeighbour(0))),
+    // the least site first
+    ("0|9", Some(GraphFault::SelfNeighbour(0))),
+    ("9|1", Some(GraphFault::BadSite(0))),
+    ("1|9", Some(GraphFault::OneSided(0, 1))),
+    ("1|1", Some(GraphFault::OneSided(0, 1))),
+    ("|0 1 9", Some(GraphFault::BadSite(1))),
+];
+
+#[test]
+fn first_faults(rt: HostRuntime) -> Result<(), Fail> {
+    for (text, fault) in FAULTS {
+        assert_eq!(rt; fault_of(&rt, rt.alloc(), *text)?, *fault, "{text}");
+    }
     Ok(())
 }
 
@@ -161,78 +224,52 @@ const FULL: &str =
 
 const BACK: &str = "|0|0|0|0|0|0|0|0|0|0|0|0|0|0|0|0|0|0|0|0|0|0|0|0|0|0|0|0|0|0|0|0";
 
-#[test]
-fn first_faults(rt: HostRuntime) -> Result<(), Fail> {
-    use GraphFault::*;
-    let alloc = rt.alloc();
-    let cases = [
-        // one fault of each kind, and none
-        ("1 2|2 0|1 0 0", None),
-        ("2 9|0|0", Some(BadSite(0))),
-        ("1|0 1", Some(SelfNeighbour(1))),
-        ("1 2|0|", Some(OneSided(0, 2))),
-        ("2 1||", Some(OneSided(0, 1))),
-        ("1|0 2|", Some(OneSided(1, 2))),
-        // two faults of one site
-        ("0 9|", Some(BadSite(0))),
-        ("9 1|", Some(BadSite(0))),
-        ("1 0|", Some(SelfNeighbour(0))),
-        // the least site first
-        ("0|9", Some(SelfNeighbour(0))),
-        ("9|1", Some(BadSite(0))),
-        ("1|9", Some(OneSided(0, 1))),
-        ("1|1", Some(OneSided(0, 1))),
-        ("|0 1 9", Some(BadSite(1))),
-    ];
-    for (text, fault) in cases {
-        assert_eq!(rt;
-            graph(&rt, alloc, lists(alloc, text)?)?.err(),
-            fault,
-            "{text}"
-        );
-    }
-    Ok(())
-}
+/// The first list and the last lists of a text, and its fault.
+const CROWDED: &[(&str, &str, Option<GraphFault>)] = &[
+    (FULL, "", None),
+    (FULL, "|", None),
+    (MANY, "|0", Some(GraphFault::TooMany(0))),
+    (MANY, "|", Some(GraphFault::TooMany(0))),
+    (MANY, "|33 40", Some(GraphFault::TooMany(0))),
+    (MANY, "", Some(GraphFault::BadSite(0))),
+];
 
 #[test]
 fn too_many_neighbours(rt: HostRuntime) -> Result<(), Fail> {
     let alloc = rt.alloc();
-    let cases = [
-        (FULL, "", None),
-        (FULL, "|", None),
-        (MANY, "|0", Some(GraphFault::TooMany(0))),
-        (MANY, "|", Some(GraphFault::TooMany(0))),
-        (MANY, "|33 40", Some(GraphFault::TooMany(0))),
-        (MANY, "", Some(GraphFault::BadSite(0))),
-    ];
-    for (first, last, fault) in cases {
+    for (first, last, fault) in CROWDED {
         let text = format!(in alloc; "{first}{BACK}{last}")?;
-        assert_eq!(rt;
-            graph(&rt, alloc, lists(alloc, &text)?)?.err(),
-            fault,
-            "{text}"
-        );
+        assert_eq!(rt; fault_of(&rt, alloc, &text)?, *fault, "{text}");
     }
-    let text = format!(in alloc; "0 {MANY}{BACK}|0")?;
-    assert_eq!(rt;
-        graph(&rt, alloc, lists(alloc, &text)?)?.err(),
-        Some(GraphFault::SelfNeighbour(0))
-    );
     Ok(())
 }
 
 #[test]
+fn itself_among_too_many_neighbours(rt: HostRuntime) -> Result<(), Fail> {
+    let text = format!(in rt.alloc(); "0 {MANY}{BACK}|0")?;
+    let fault = fault_of(&rt, rt.alloc(), &text)?;
+    assert_eq!(rt; fault, Some(GraphFault::SelfNeighbour(0)));
+    Ok(())
+}
+
+const FAULTS_IN_WORDS: &[(GraphFault, &str)] = &[
+    (
+        GraphFault::BadSite(3),
+        "site 3 lists a number that is no site",
+    ),
+    (GraphFault::SelfNeighbour(3), "site 3 is its own neighbour"),
+    (GraphFault::TooMany(3), "site 3 has too many neighbours"),
+    (
+        GraphFault::OneSided(3, 5),
+        "site 3 lists 5, which does not list it",
+    ),
+    (GraphFault::OutOfMemory, "out of memory"),
+];
+
+#[test]
 fn faults_in_words(rt: HostRuntime) -> Result<(), Fail> {
-    use GraphFault::*;
-    let cases = [
-        (BadSite(3), "site 3 lists a number that is no site"),
-        (SelfNeighbour(3), "site 3 is its own neighbour"),
-        (TooMany(3), "site 3 has too many neighbours"),
-        (OneSided(3, 5), "site 3 lists 5, which does not list it"),
-        (OutOfMemory, "out of memory"),
-    ];
-    for (fault, words) in cases {
-        assert_eq!(rt; format!(in rt.alloc(); "{fault}")?.as_str(), words);
+    for (fault, words) in FAULTS_IN_WORDS {
+        assert_eq!(rt; format!(in rt.alloc(); "{fault}")?.as_str(), *words);
     }
     Ok(())
 }

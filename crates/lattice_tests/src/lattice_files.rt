@@ -22,134 +22,160 @@ pub(crate) fn fault_of(alloc: Global, text: &[u8]) -> Result<Option<(u32, u8)>, 
     }
 }
 
+const OF_DEFAULT: &[(&str, &str, u32, u8)] = &[
+    ("1.0 2 2", "", 3, 9),
+    ("x 2 2", "end_lattice\n", 2, 11),
+    ("1.0 y 2", "end_lattice\n", 2, 12),
+    ("1.0 0 2", "end_lattice\n", 2, 13),
+    ("1.0 1 2", "end_lattice\n", 2, 26),
+    ("1.0 1000000000 1000000000", "end_lattice\n", 2, 29),
+];
+
 #[test]
 fn faults_of_default_lattices(rt: HostRuntime) -> Result<(), Fail> {
     let alloc = rt.alloc();
-    for (arguments, end, line, kind) in [
-        ("1.0 2 2", "", 3, 9),
-        ("x 2 2", "end_lattice\n", 2, 11),
-        ("1.0 y 2", "end_lattice\n", 2, 12),
-        ("1.0 0 2", "end_lattice\n", 2, 13),
-        ("1.0 1 2", "end_lattice\n", 2, 26),
-        ("1.0 1000000000 1000000000", "end_lattice\n", 2, 29),
-    ] {
+    for (arguments, end, line, kind) in OF_DEFAULT {
         let text = format!(in alloc;
             "lattice default_choice\nrectangular_periodic {arguments}\n{end}"
         )?;
-        assert_eq!(rt;
-            fault_of(alloc, text.as_bytes())?,
-            Some((line, kind)),
-            "{arguments}"
-        );
+        let fault = fault_of(alloc, text.as_bytes())?;
+        assert_eq!(rt; fault, Some((*line, *kind)), "{arguments}");
     }
     Ok(())
 }
+
+/// What a file of a cell has of repeats, number of sites, names of types, types of sites and rows, and the line and the
+/// kind of its fault.
+const OF_CELLS: &[(&str, &str, &str, &str, &str, u32, u8)] = &[
+    ("2 x", "2", "t", "1 1", "1-2 self\n", 2, 12),
+    ("2 2", "0", "t", "1 1", "1-2 self\n", 3, 13),
+    ("2 2", "2", "t u", "1 1", "1-2 self\n", 5, 15),
+    ("2 2", "2", "t", "1", "1-2 self\n", 6, 15),
+    ("2 2", "2", "t", "1 1", "1-2 self\n1-2 west\n", 9, 17),
+    ("2 2", "2", "t", "1 1", "1-3 self\n", 8, 20),
+    ("1 2", "2", "t", "1 1", "1-1 north\n1-1 east\n", 9, 26),
+    ("256 257", "1", "t", "1", "1-1 east\n", 2, 29),
+];
 
 #[test]
 fn faults_of_cells(rt: HostRuntime) -> Result<(), Fail> {
     let alloc = rt.alloc();
-    for (repeats, sites, names, types, rows, line, kind) in [
-        ("2 x", "2", "t", "1 1", "1-2 self\n", 2, 12),
-        ("2 2", "0", "t", "1 1", "1-2 self\n", 3, 13),
-        ("2 2", "2", "t u", "1 1", "1-2 self\n", 5, 15),
-        ("2 2", "2", "t", "1", "1-2 self\n", 6, 15),
-        ("2 2", "2", "t", "1 1", "1-2 self\n1-2 west\n", 9, 17),
-        ("2 2", "2", "t", "1 1", "1-3 self\n", 8, 20),
-        ("1 2", "2", "t", "1 1", "1-1 north\n1-1 east\n", 9, 26),
-        ("256 257", "1", "t", "1", "1-1 east\n", 2, 29),
-    ] {
+    for (repeats, sites, names, types, rows, line, kind) in OF_CELLS {
         let text = format!(in alloc;
             "lattice periodic_cell\nrepeat_cell {repeats}\nn_cell_sites {sites}\nn_site_types 1\nsite_type_names {names}\nsite_types {types}\nneighboring_structure\n{rows}end_neighboring_structure\nend_lattice\n"
         )?;
-        assert_eq!(rt;
-            fault_of(alloc, text.as_bytes())?,
-            Some((line, kind)),
-            "{repeats} {sites} {names} {types} {rows}"
-        );
+        let fault = fault_of(alloc, text.as_bytes())?;
+        assert_eq!(rt; fault, Some((*line, *kind)), "{text}");
     }
     Ok(())
 }
 
+const LIMITS: &[(&str, &str, u32, u8)] = &[
+    ("65536", "1", 5, 16),
+    ("65537", "1", 2, 13),
+    ("1", "1000", 4, 15),
+    ("1", "1001", 3, 13),
+];
+
 #[test]
 fn limits_of_sites_and_types(rt: HostRuntime) -> Result<(), Fail> {
     let alloc = rt.alloc();
-    for (sites, types, line, kind) in [
-        ("65536", "1", 5, 16),
-        ("65537", "1", 2, 13),
-        ("1", "1000", 4, 15),
-        ("1", "1001", 3, 13),
-    ] {
+    for (sites, types, line, kind) in LIMITS {
         let text = format!(in alloc;
             "lattice explicit\nn_sites {sites}\nn_site_types {types}\nsite_type_names t\nlattice_structure\n1 0.0 0.0 t 0\nend_lattice_structure\nend_lattice\n"
         )?;
-        assert_eq!(rt;
-            fault_of(alloc, text.as_bytes())?,
-            Some((line, kind)),
-            "{sites} {types}"
-        );
+        let fault = fault_of(alloc, text.as_bytes())?;
+        assert_eq!(rt; fault, Some((*line, *kind)), "{text}");
     }
     Ok(())
 }
+
+const OF_LISTS: &[(&str, &str, u32, u8)] = &[
+    ("t u", "1 0.0 0.0 t 0\n", 5, 16),
+    ("t u", "1 0.0 0.0 t\n2 1.0 0.0 t 0\n", 6, 17),
+    ("t t", "1 0.0 0.0 t 0\n2 1.0 0.0 t 0\n", 4, 18),
+    ("t u", "1 0.0 0.0 t 0\n1 1.0 0.0 t 0\n", 7, 24),
+    ("t u", "1 0.0 0.0 t 1 3\n2 1.0 0.0 t 0\n", 6, 25),
+    ("t u", "1 0.0 0.0 t 1 1\n2 1.0 0.0 t 0\n", 6, 26),
+    ("t u", "1 0.0 0.0 t 1 2\n2 1.0 0.0 t 0\n", 6, 28),
+];
 
 #[test]
 fn faults_of_lists_of_sites(rt: HostRuntime) -> Result<(), Fail> {
     let alloc = rt.alloc();
     row_kinds_rise();
-    for (names, rows, line, kind) in [
-        ("t u", "1 0.0 0.0 t 0\n", 5, 16),
-        ("t u", "1 0.0 0.0 t\n2 1.0 0.0 t 0\n", 6, 17),
-        ("t t", "1 0.0 0.0 t 0\n2 1.0 0.0 t 0\n", 4, 18),
-        ("t u", "1 0.0 0.0 t 0\n1 1.0 0.0 t 0\n", 7, 24),
-        ("t u", "1 0.0 0.0 t 1 3\n2 1.0 0.0 t 0\n", 6, 25),
-        ("t u", "1 0.0 0.0 t 1 1\n2 1.0 0.0 t 0\n", 6, 26),
-        ("t u", "1 0.0 0.0 t 1 2\n2 1.0 0.0 t 0\n", 6, 28),
-    ] {
+    for (names, rows, line, kind) in OF_LISTS {
         let text = format!(in alloc;
             "lattice explicit\nn_sites 2\nn_site_types 2\nsite_type_names {names}\nlattice_structure\n{rows}end_lattice_structure\nend_lattice\n"
         )?;
-        assert_eq!(rt;
-            fault_of(alloc, text.as_bytes())?,
-            Some((line, kind)),
-            "{names} {rows}"
-        );
+        let fault = fault_of(alloc, text.as_bytes())?;
+        assert_eq!(rt; fault, Some((*line, *kind)), "{text}");
     }
-    let crowded =
-        b"lattice explicit\nlattice_structure\n1 0 0 t 33 2 3 4 5 6 7 8 9 10 11 12 13 14 15 16 17 18 19 20 21 22 23 24 25 26 27 28 29 30 31 32 33 34\nend_lattice_structure\nn_sites x\nn_site_types 1\nsite_type_names t\nend_lattice\n";
-    assert_eq!(rt; fault_of(alloc, crowded)?, Some((3, 27)));
     Ok(())
 }
 
 #[test]
+fn crowded_list_of_sites(rt: HostRuntime) -> Result<(), Fail> {
+    let crowded =
+        b"lattice explicit\nlattice_structure\n1 0 0 t 33 2 3 4 5 6 7 8 9 10 11 12 13 14 15 16 17 18 19 20 21 22 23 24 25 26 27 28 29 30 31 32 33 34\nend_lattice_structure\nn_sites x\nn_site_types 1\nsite_type_names t\nend_lattice\n";
+    assert_eq!(rt; fault_of(rt.alloc(), crowded)?, Some((3, 27)));
+    Ok(())
+}
+
+/// What is read of a lattice file: the numbers of sites, of types, and of types that are given by name, the types of the
+/// first two sites, and the fault of a type that is unknown.
+type Reading = (u32, usize, usize, [u16; 2], Option<(u32, u8)>);
+
+/// What is read of a text.
+fn reading(alloc: Global, text: &[u8]) -> Result<Reading, Fail> {
+    let part = read_text(alloc, text)?;
+    let unknown = unknown_type(alloc, text, &part)?;
+    let graph = &part.graph;
+    if graph.len() < 2 {
+        return Err("too few sites")?;
+    }
+    let kinds = [graph.site_type(SiteId(0)), graph.site_type(SiteId(1))];
+    let types = part.type_names.len();
+    Ok((graph.len(), types, part.type_words.len(), kinds, unknown))
+}
+
+/// The neighbours of the first site of a text.
+fn neighbours(alloc: Global, text: &[u8]) -> Result<Vec<u32>, Fail> {
+    let part = read_text(alloc, text)?;
+    if part.graph.len() == 0 {
+        return Err("no sites")?;
+    }
+    let mut numbers = Vec::new(alloc);
+    for site in part.graph.neighbours(SiteId(0)) {
+        numbers.push(site.0)?;
+    }
+    Ok(numbers)
+}
+
+/// Files, what is read of them, and the neighbours of the first site.
+const READINGS: &[(&[u8], Reading, &[u32])] = &[
+    (
+        b"lattice periodic_cell\nrepeat_cell 2 2\nn_cell_sites 2\nn_site_types 2\nsite_type_names top hollow\nsite_types hollow 1\nneighboring_structure\n1-2 self\n2-1 north\nend_neighboring_structure\nend_lattice\n",
+        (8, 2, 2, [2, 1], None),
+        &[1, 3],
+    ),
+    (
+        b"lattice explicit\nn_sites 2\nn_site_types 2\nsite_type_names top hollow\nlattice_structure\n2 1.0 0.0 other 1 1\n1 0.0 0.0 2 1 2\nend_lattice_structure\nend_lattice\n",
+        (2, 2, 2, [2, 0], Some((6, 33))),
+        &[1],
+    ),
+    (
+        b"lattice default_choice\nhexagonal_periodic 1.0 3 3\nend_lattice\n",
+        (9, 1, 0, [1, 1], None),
+        &[1, 2, 3, 4, 6, 8],
+    ),
+];
+
+#[test]
 fn reads_lattices(rt: HostRuntime) -> Result<(), Fail> {
-    let alloc = rt.alloc();
-    let cell: &[u8] =
-        b"lattice periodic_cell\nrepeat_cell 2 2\nn_cell_sites 2\nn_site_types 2\nsite_type_names top hollow\nsite_types hollow 1\nneighboring_structure\n1-2 self\n2-1 north\nend_neighboring_structure\nend_lattice\n";
-    let list: &[u8] =
-        b"lattice explicit\nn_sites 2\nn_site_types 2\nsite_type_names top hollow\nlattice_structure\n2 1.0 0.0 other 1 1\n1 0.0 0.0 2 1 2\nend_lattice_structure\nend_lattice\n";
-    let named: &[u8] = b"lattice default_choice\nhexagonal_periodic 1.0 3 3\nend_lattice\n";
-    for (text, sites, types, words, unknown, kinds, neighbours) in [
-        (cell, 8, 2, 2, None, [2, 1], [1, 3].as_slice()),
-        (list, 2, 2, 2, Some((6, 33)), [2, 0], [1].as_slice()),
-        (named, 9, 1, 0, None, [1, 1], [1, 2, 3, 4, 6, 8].as_slice()),
-    ] {
-        let part = read_text(alloc, text)?;
-        assert_eq!(rt; unknown_type(alloc, text, &part)?, unknown);
-        assert_eq!(rt; part.graph.len(), sites);
-        assert_eq!(rt; part.type_names.len(), types);
-        assert_eq!(rt; part.type_words.len(), words);
-        assert!(rt; 1 < part.graph.len());
-        assert_eq!(rt;
-            [
-                part.graph.site_type(SiteId(0)),
-                part.graph.site_type(SiteId(1))
-            ],
-            kinds
-        );
-        let first = part.graph.neighbours(SiteId(0));
-        assert_eq!(rt; first.len(), neighbours.len());
-        for (site, number) in first.iter().zip(neighbours) {
-            assert_eq!(rt; site.0, *number);
-        }
+    for (text, want, nearest) in READINGS {
+        assert_eq!(rt; reading(rt.alloc(), *text)?, *want);
+        assert_eq!(rt; neighbours(rt.alloc(), *text)?.as_slice(), *nearest);
     }
     Ok(())
 }

@@ -3,10 +3,11 @@ use deck_shape::NumberForm;
 use lattice_cell::DefaultLattice;
 use lattice_deck::{FORMS, Form, RowCount};
 use std::alloc::Global;
+use std::process::Abort;
 use std::test::Fail;
 
 /// What each word of the lattice file takes, in the order of the table.
-const WORDS: [(&str, Form); 13] = [
+const WORDS: &[(&str, Form)] = &[
     (
         "rectangular_periodic",
         Form::Default(DefaultLattice::Rectangular),
@@ -39,7 +40,8 @@ const WORDS: [(&str, Form); 13] = [
 
 #[test]
 fn forms_of_words(rt: HostRuntime) -> Result<(), Fail> {
-    for (entry, (word, form)) in FORMS.iter().zip(WORDS.iter()) {
+    assert_eq!(rt; FORMS.len(), WORDS.len());
+    for (entry, (word, form)) in FORMS.iter().zip(WORDS) {
         assert_eq!(rt; entry.keyword.spelling(), word.as_bytes());
         assert_eq!(rt; entry.form, *form);
     }
@@ -68,7 +70,7 @@ const EXPLICIT: &str =
 /// The number of a line, what replaces it, and the line and the kind of the fault that the file then has.
 type Change = (usize, &'static str, Option<(u32, u8)>);
 
-const OF_DEFAULT: [Change; 14] = [
+const OF_DEFAULT: &[Change] = &[
     (2, "rectangular_periodic 1.0 2 2", None),
     (2, "hexagonal_periodic 1.0 2 2", None),
     (2, "rectangular_periodic -1.0 256 256", None),
@@ -85,7 +87,7 @@ const OF_DEFAULT: [Change; 14] = [
     (2, "hexagonal_periodic 1.0 2 1", Some((2, 26))),
 ];
 
-const OF_CELL: [Change; 30] = [
+const OF_CELL: &[Change] = &[
     (2, "repeat_cell 256 256", None),
     (2, "repeat_cell 256 257", Some((2, 29))),
     (2, "repeat_cell x 2", Some((2, 12))),
@@ -127,10 +129,12 @@ const OF_CELL: [Change; 30] = [
         Some((8, 13)),
     ),
     (8, "1-1 up", Some((8, 17))),
+    (9, "1-1 northeast", None),
+    (9, "1-1 southeast", None),
     (9, "1-2 east", Some((9, 20))),
 ];
 
-const OF_EXPLICIT: [Change; 14] = [
+const OF_EXPLICIT: &[Change] = &[
     (2, "n_sites 2", None),
     (2, "n_sites x", Some((2, 12))),
     (2, "n_sites 0", Some((2, 13))),
@@ -147,18 +151,23 @@ const OF_EXPLICIT: [Change; 14] = [
     (6, "1 0.0 1e999 t 1 2", Some((6, 13))),
 ];
 
-#[test]
-fn faults_of_each_word(rt: HostRuntime) -> Result<(), Fail> {
-    let alloc = rt.alloc();
-    for (text, changes) in [
-        (DEFAULT, OF_DEFAULT.as_slice()),
-        (CELL, OF_CELL.as_slice()),
-        (EXPLICIT, OF_EXPLICIT.as_slice()),
-    ] {
-        for (number, with, fault) in changes {
-            let changed = with_line(alloc, text, *number, with)?;
-            assert_eq!(rt; fault_of(alloc, changed.as_bytes())?, *fault, "{changed}");
-        }
+/// Looks at the fault of a text with each of these changes in turn.
+fn look_at_changes(
+    rt: &impl Abort,
+    alloc: Global,
+    text: &str,
+    changes: &[Change],
+) -> Result<(), Fail> {
+    for (number, with, fault) in changes {
+        let changed = with_line(alloc, text, *number, *with)?;
+        assert_eq!(rt; fault_of(alloc, changed.as_bytes())?, *fault, "{changed}");
     }
     Ok(())
+}
+
+#[test]
+fn faults_of_each_word(rt: HostRuntime) -> Result<(), Fail> {
+    look_at_changes(&rt, rt.alloc(), DEFAULT, OF_DEFAULT)?;
+    look_at_changes(&rt, rt.alloc(), CELL, OF_CELL)?;
+    look_at_changes(&rt, rt.alloc(), EXPLICIT, OF_EXPLICIT)
 }
