@@ -58,6 +58,10 @@ fn names_in_any_order(rt: HostRuntime) {
             "event {event}, code {code}"
         );
     }
+}
+
+#[test]
+fn names_under_other_seeds(rt: HostRuntime) {
     for (seed, event, code, expected) in [
         (0, 0, 0, 0xd6405f892fef003e),
         (u64::MAX, 3, 18_446_744_073_709_551_616, 0x0d28dcd8615d3b01),

@@ -6,6 +6,10 @@ fn logarithms(rt: HostRuntime) {
     for (number, logarithm) in [(1, 0), (1 << 64, 68_719_476_736)] {
         assert_eq!(rt; log2(number), logarithm, "at {number}");
     }
+}
+
+#[test]
+fn logarithms_of_decimals(rt: HostRuntime) {
     for (digits, power, lg) in [(1, 13, Some(46_369_610_716)), (0, 0, None)] {
         assert_eq!(rt; lg_decimal(digits, power), lg, "at {digits} * 10^{power}");
     }
@@ -22,19 +26,25 @@ fn powers_of_two(rt: HostRuntime) {
     }
 }
 
+/// The draw in the middle.
+const MIDDLE: u64 = (1 << 63) - 1;
+
 #[test]
-fn waiting_times(rt: HostRuntime) {
-    let middle = (1 << 63) - 1;
-    for (draw, width) in [(0, 47_632_711_552), (middle, 744_261_118), (u64::MAX, 0)] {
+fn gaps(rt: HostRuntime) {
+    for (draw, width) in [(0, 47_632_711_552), (MIDDLE, 744_261_118), (u64::MAX, 0)] {
         assert_eq!(rt; gap(draw), width, "at {draw}");
     }
+}
+
+#[test]
+fn waiting_times(rt: HostRuntime) {
     // An ordinary rate; a mean wait just below 2^121 attoseconds, but no gap; the end of time; a mean wait of 2^121
     // attoseconds; no rate.
     let end = 1_000_000_000_000_000_000_000_000_000_000;
     for (lg, draw, now, when) in [
         (
             Some(10_416_910_329),
-            middle,
+            MIDDLE,
             0,
             When::At(832_495_377_675_556),
         ),
