@@ -103,7 +103,6 @@ const OF_LISTS: &[(&str, &str, u32, u8)] = &[
 #[test]
 fn faults_of_lists_of_sites(rt: HostRuntime) -> Result<(), Fail> {
     let alloc = rt.alloc();
-    row_kinds_rise();
     for (names, rows, line, kind) in OF_LISTS {
         let text = format!(in alloc;
             "lattice explicit\nn_sites 2\nn_site_types 2\nsite_type_names {names}\nlattice_structure\n{rows}end_lattice_structure\nend_lattice\n"
@@ -112,6 +111,11 @@ fn faults_of_lists_of_sites(rt: HostRuntime) -> Result<(), Fail> {
         assert_eq!(rt; fault, Some((*line, *kind)), "{text}");
     }
     Ok(())
+}
+
+#[test]
+fn kinds_of_rows() {
+    row_kinds_rise();
 }
 
 #[test]
