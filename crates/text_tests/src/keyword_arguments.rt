@@ -32,7 +32,7 @@ fn line_and_word(name: &Name) -> (u32, &'static [u8]) {
 #[test]
 fn names(rt: HostRuntime) -> Result<(), Fail> {
     let shape = read_shape(rt.alloc(), FileId::Lattice, LATTICE)?;
-    let block = shape.block();
+    let block = &shape.block;
     let names = block.names_in(rt.alloc(), LATTICE, Keyword::SiteTypeNames)?;
     let [first, second] = names.as_slice() else {
         return Err("not two names")?;
