@@ -281,8 +281,8 @@ impl Reading {
 
     /// A closing word is read that does not close the file.
     fn after_closing(self, alloc: Global, line: &Line) -> Result<Reading, OutOfMemory>
-        ensures { IfOk result (λ reading. (text : List ℕ) → reading_at text reading ≡ after_closing (line_at text line.now) (reading_at text
-            self) self.below) }
+        ensures { IfOk result (λ reading. (text : List ℕ) → reading_at text reading
+            ≡ after_closing (line_at text line.now) (reading_at text self) self.below) }
     {
         match self.below {
             Below::Enclosed(_) => Ok(Reading {

@@ -75,7 +75,8 @@ pub(crate) fn read_values(
 ) -> Result<(SimPart, LatticePart), DeckFault>
     requires simulation { length simulation.now ≤ MAX_FILE_BYTES }
     requires lattice { length lattice.now ≤ MAX_FILE_BYTES }
-    ensures values { Reads (λ parts. (values_at simulation.now parts.0, lattice_values_at lattice.now parts.1)) result (values_in simulation.now lattice.now) }
+    ensures values { Reads (λ parts. (values_at simulation.now parts.0, lattice_values_at lattice.now parts.1)) result
+        (values_in simulation.now lattice.now) }
     ensures sound { IfOk result (λ parts. IsSoundPart (values_at simulation.now parts.0)) }
 {
     let (simulation_shape, lattice_shape) = read_shapes(alloc, simulation, lattice)?;
