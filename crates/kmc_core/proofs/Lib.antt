@@ -4,7 +4,6 @@ pub mod AnchorInstances
 pub mod CodeOrder
 pub mod FirstFirings
 pub mod Instances
-pub mod MatchedStates
 pub mod MergedEntries
 pub mod OfferedInstances
 pub mod OfferedPlacements

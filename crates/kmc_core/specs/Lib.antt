@@ -4,6 +4,5 @@ pub mod InstanceRange
 pub mod Instances
 pub mod ListedProcess
 pub mod PlainSystem
-pub mod Rate
 pub mod Run
 pub mod Stops

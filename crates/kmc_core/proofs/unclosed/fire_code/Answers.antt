@@ -1,6 +1,6 @@
 use Rattle.std.proofs.Common.{◌∙◌, ap, length, sym}
 use Rattle.lattice_core.specs.SiteList.{site_numbers}
-use Rattle.kmc_core.proofs.MatchedStates.{in_wanted_states}
+use Rattle.rate_rules.proofs.MatchedStates.{in_wanted_states}
 use Rattle.kmc_core.proofs.OfferedPlacements.{decoded, named, process_is_there}
 use Rattle.kmc_core.specs.Deck.{dentates_in}
 use Rattle.kmc_core.specs.PlainSystem.{process_of}
