@@ -8,7 +8,7 @@ use std::process::Abort;
 use std::rt::Files;
 use std::test::Fail;
 
-const INPUTS: [(FileId, &str); 5] = [
+const INPUTS: &[(FileId, &str)] = &[
     (FileId::Simulation, "simulation_input.dat"),
     (FileId::Lattice, "lattice_input.dat"),
     (FileId::Energetics, "energetics_input.dat"),
@@ -16,7 +16,7 @@ const INPUTS: [(FileId, &str); 5] = [
     (FileId::State, "state_input.dat"),
 ];
 
-const OUTPUTS: [(OutId, &str); 3] = [
+const OUTPUTS: &[(OutId, &str)] = &[
     (OutId::History, "history_output.txt"),
     (OutId::Procstat, "procstat_output.txt"),
     (OutId::Specnum, "specnum_output.txt"),
@@ -41,17 +41,12 @@ fn loads<R: Files + Abort>(
 fn inputs_are_read_from_the_working_directory(rt: HostRuntime) -> Result<(), Fail> {
     // Each file holds its own name.
     for (file, name) in INPUTS {
-        loads(&rt, rt.alloc(), file, 100, Err(LoadFault::Absent))?;
-        fs::write(&rt, name, name)?;
-        loads(&rt, rt.alloc(), file, name.len(), Ok(name))?;
-        loads(
-            &rt,
-            rt.alloc(),
-            file,
-            name.len().saturating_sub(1),
-            Err(LoadFault::TooLong),
-        )?;
-        fs::remove_file(&rt, name)?;
+        loads(&rt, rt.alloc(), *file, 100, Err(LoadFault::Absent))?;
+        fs::write(&rt, *name, *name)?;
+        loads(&rt, rt.alloc(), *file, name.len(), Ok(*name))?;
+        let less = name.len().saturating_sub(1);
+        loads(&rt, rt.alloc(), *file, less, Err(LoadFault::TooLong))?;
+        fs::remove_file(&rt, *name)?;
     }
     Ok(())
 }
@@ -59,10 +54,10 @@ fn inputs_are_read_from_the_working_directory(rt: HostRuntime) -> Result<(), Fai
 /// Adds its own name to each output, and then a point to each.
 fn append_in_turn<R: Files>(folder: &mut DiskFolder<R>) -> Result<(), Failed> {
     for (out, name) in OUTPUTS {
-        folder.append(out, name.as_bytes())?;
+        folder.append(*out, name.as_bytes())?;
     }
     for (out, _) in OUTPUTS {
-        folder.append(out, b".")?;
+        folder.append(*out, b".")?;
     }
     Ok(())
 }
@@ -70,8 +65,8 @@ fn append_in_turn<R: Files>(folder: &mut DiskFolder<R>) -> Result<(), Failed> {
 /// Begins each output, which may be open, and adds no bytes to it.
 fn begin_in_turn<R: Files>(folder: &mut DiskFolder<R>) -> Result<(), Failed> {
     for (out, _) in OUTPUTS {
-        folder.begin(out)?;
-        folder.append(out, b"")?;
+        folder.begin(*out)?;
+        folder.append(*out, b"")?;
     }
     Ok(())
 }
@@ -80,7 +75,7 @@ fn begin_in_turn<R: Files>(folder: &mut DiskFolder<R>) -> Result<(), Failed> {
 fn holds<R: Files + AllocGlobal + Abort>(rt: &R, rest: &str) -> Result<(), Fail> {
     for (_, name) in OUTPUTS {
         let text = format!(in rt.alloc(); "{name}.{rest}")?;
-        assert_eq!(rt; fs::read_to_string(rt, name)?, text);
+        assert_eq!(rt; fs::read_to_string(rt, *name)?, text);
     }
     Ok(())
 }
@@ -97,7 +92,7 @@ fn outputs_are_written_to_the_working_directory(rt: HostRuntime) -> Result<(), F
         holds(&rt, "")?;
     }
     for (out, _) in OUTPUTS {
-        DiskFolder::new(&rt).append(out, b" more")?;
+        DiskFolder::new(&rt).append(*out, b" more")?;
     }
     holds(&rt, " more")
 }

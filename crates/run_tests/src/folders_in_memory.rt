@@ -23,7 +23,7 @@ fn folder_of_files(alloc: Global, failing: [u64; 2]) -> Result<MemoryFolder, Fai
 #[test]
 fn folder_loads(rt: HostRuntime) -> Result<(), Fail> {
     // Of two files with one id the first counts. The second load and the fifth fail.
-    const LOADS: [(FileId, usize, &str, Option<LoadFault>); 6] = [
+    const LOADS: &[(FileId, usize, &str, Option<LoadFault>)] = &[
         (FileId::Lattice, 3, "abc", None),
         (FileId::Lattice, 3, "no bytes", Some(LoadFault::Failed)),
         (FileId::Lattice, 2, "no bytes", Some(LoadFault::TooLong)),
@@ -33,9 +33,9 @@ fn folder_loads(rt: HostRuntime) -> Result<(), Fail> {
     ];
     let mut folder = folder_of_files(rt.alloc(), [2, 5])?;
     for (file, max, text, fault) in LOADS {
-        match folder.load(rt.alloc(), file, max) {
+        match folder.load(rt.alloc(), *file, *max) {
             Ok(bytes) => assert_eq!(rt; bytes.as_slice(), text.as_bytes()),
-            Err(answer) => assert_eq!(rt; Some(answer), fault),
+            Err(answer) => assert_eq!(rt; Some(answer), *fault),
         }
     }
     Ok(())
@@ -61,7 +61,7 @@ fn write(folder: &mut MemoryFolder, out: OutId, piece: Option<&str>) -> Result<(
 fn folder_writes(rt: HostRuntime) -> Result<(), Fail> {
     // What is added, or None for a begin; whether it succeeds; the output after it. Past its room the folder stops
     // telling, for good.
-    const WRITES: [(OutId, Option<&str>, bool, &str); 9] = [
+    const WRITES: &[(OutId, Option<&str>, bool, &str)] = &[
         (OutId::History, None, true, ""),
         (OutId::History, Some("abc"), true, "abc"),
         (OutId::History, Some("x"), false, "abc"),
@@ -75,8 +75,8 @@ fn folder_writes(rt: HostRuntime) -> Result<(), Fail> {
     let mut folder = folder_with_room(rt.alloc(), 6)?;
     assert!(rt; folder.output(OutId::History).is_none());
     for (out, piece, done, text) in WRITES {
-        assert_eq!(rt; write(&mut folder, out, piece).is_ok(), done);
-        assert_eq!(rt; told(folder.output(out)), text.as_bytes());
+        assert_eq!(rt; write(&mut folder, *out, *piece).is_ok(), *done);
+        assert_eq!(rt; told(folder.output(*out)), text.as_bytes());
     }
     Ok(())
 }

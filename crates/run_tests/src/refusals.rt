@@ -4,7 +4,7 @@ use crate::decks::{
 use deck_shape::kind;
 use kmc_base::{FileId, MemoryFolder, OutId};
 use kmc_run::{Fault, Status};
-use std::alloc::Global;
+use std::alloc::{AllocError, Global};
 use std::marker::Sync;
 use std::process::Abort;
 use std::test::Fail;
@@ -20,18 +20,16 @@ const NARROW: &str = "lattice default_choice\nrectangular_periodic 1.0 1 2\nend_
 const UNKNOWN: &str =
     "lattice explicit\nn_sites 2\nn_site_types 1\nsite_type_names top\nlattice_structure\n1 0.0 0.0 top 1 2\n2 1.0 0.0 2 1 1\nend_lattice_structure\nend_lattice\n";
 
-/// Runs the program on a deck that is refused with this fault. It begins no output.
+/// Runs the program on a deck that is refused with a fault of this file, line and kind. It begins no output.
 fn refuses<R: Threads + Sync + Abort>(
     rt: &R,
     alloc: Global,
     deck: DeckTexts,
-    fault: Fault,
+    (file, line, kind): (FileId, u32, u8),
 ) -> Result<(), Fail> {
     let mut folder = folder_of(alloc, deck, [0, 0], 0)?;
-    assert_eq!(rt;
-        status_of(rt, alloc, &["run"], &mut folder)?,
-        Status::Refused(fault)
-    );
+    let status = status_of(rt, alloc, &["run"], &mut folder)?;
+    assert_eq!(rt; status, Status::Refused(Fault { file, line, kind }));
     assert!(rt; folder.output(OutId::Specnum).is_none());
     Ok(())
 }
@@ -39,7 +37,7 @@ fn refuses<R: Threads + Sync + Abort>(
 #[test]
 fn refuses_simulation_files(rt: HostRuntime) -> Result<(), Fail> {
     // The last lines of the file, and the line and the kind of its fault. Kind 0 is a file that kmc does not take.
-    const CASES: [(&str, u32, u8); 7] = [
+    const CASES: &[(&str, u32, u8)] = &[
         (
             "pressure 1.0\nsurf_specs_dent 1\ntemperature 400.0\nfinish\n",
             11,
@@ -73,17 +71,11 @@ fn refuses_simulation_files(rt: HostRuntime) -> Result<(), Fail> {
         ),
     ];
     for (rest, line, kind) in CASES {
-        let simulation = [SPECIES, rest];
-        let file = FileId::Simulation;
-        refuses(
-            &rt,
-            rt.alloc(),
-            DeckTexts {
-                simulation,
-                ..FILLED
-            },
-            Fault { file, line, kind },
-        )?;
+        let deck = DeckTexts {
+            simulation: [SPECIES, *rest],
+            ..FILLED
+        };
+        refuses(&rt, rt.alloc(), deck, (FileId::Simulation, *line, *kind))?;
     }
     Ok(())
 }
@@ -93,7 +85,7 @@ fn refuses_simulation_files(rt: HostRuntime) -> Result<(), Fail> {
 // comes first.
 #[test]
 fn refuses_lattice_files(rt: HostRuntime) -> Result<(), Fail> {
-    const CASES: [(&str, &str, FileId, u32, u8); 7] = [
+    const CASES: &[(&str, &str, FileId, u32, u8)] = &[
         (SAMPLED, NARROW, FileId::Lattice, 2, kind::SELF_NEIGHBOUR),
         (SAMPLED, UNKNOWN, FileId::Lattice, 7, kind::UNKNOWN_TYPE),
         (
@@ -133,13 +125,12 @@ fn refuses_lattice_files(rt: HostRuntime) -> Result<(), Fail> {
         ),
     ];
     for (rest, lattice, file, line, kind) in CASES {
-        let simulation = [SPECIES, rest];
         let deck = DeckTexts {
-            simulation,
-            lattice,
+            simulation: [SPECIES, *rest],
+            lattice: *lattice,
             ..FILLED
         };
-        refuses(&rt, rt.alloc(), deck, Fault { file, line, kind })?;
+        refuses(&rt, rt.alloc(), deck, (*file, *line, *kind))?;
     }
     Ok(())
 }
@@ -147,7 +138,7 @@ fn refuses_lattice_files(rt: HostRuntime) -> Result<(), Fail> {
 // Kind 1 is a file that is not there.
 #[test]
 fn refuses_with_the_first_fault(rt: HostRuntime) -> Result<(), Fail> {
-    const CASES: [(&str, &str, &str, &str, FileId, u32, u8); 5] = [
+    const CASES: &[(&str, &str, &str, &str, FileId, u32, u8)] = &[
         (SAMPLED, OPEN, "", FILLS, FileId::Energetics, 0, 1),
         ("finish\n", LATTICE, ENERGETICS, "", FileId::Mechanism, 0, 1),
         (
@@ -179,38 +170,38 @@ fn refuses_with_the_first_fault(rt: HostRuntime) -> Result<(), Fail> {
         ),
     ];
     for (rest, lattice, energetics, mechanism, file, line, kind) in CASES {
-        let simulation = [SPECIES, rest];
         let deck = DeckTexts {
-            simulation,
-            lattice,
-            energetics,
-            mechanism,
+            simulation: [SPECIES, *rest],
+            lattice: *lattice,
+            energetics: *energetics,
+            mechanism: *mechanism,
         };
-        refuses(&rt, rt.alloc(), deck, Fault { file, line, kind })?;
+        refuses(&rt, rt.alloc(), deck, (*file, *line, *kind))?;
     }
     Ok(())
+}
+
+/// A folder of three files, of which that of the lattice has one byte more than a file may have.
+fn folder_with_a_long_file(alloc: Global) -> Result<MemoryFolder, AllocError> {
+    let files = vec![in alloc;
+        (FileId::Simulation, Vec::from_slice(alloc, b"finish\n")?),
+        (FileId::Lattice, vec![in alloc; b' '; 16_777_217]?),
+        (FileId::Energetics, Vec::from_slice(alloc, b"more\n")?),
+    ]?;
+    Ok(MemoryFolder::new(files, Vec::new(alloc), Vec::new(alloc), Vec::new(alloc)))
 }
 
 // Kind 2 is a file of more bytes than a file may have.
 #[test]
 fn refuses_a_file_that_is_too_long(rt: HostRuntime) -> Result<(), Fail> {
-    let alloc = rt.alloc();
-    let long = vec![in alloc; b' '; 16_777_217]?;
-    let files = vec![in alloc;
-        (FileId::Simulation, Vec::from_slice(alloc, b"finish\n")?),
-        (FileId::Lattice, long),
-        (FileId::Energetics, Vec::from_slice(alloc, b"more\n")?),
-    ]?;
-    let mut folder = MemoryFolder::new(files, Vec::new(alloc), Vec::new(alloc), Vec::new(alloc));
+    let mut folder = folder_with_a_long_file(rt.alloc())?;
     let fault = Fault {
         file: FileId::Lattice,
         line: 0,
         kind: 2,
     };
-    assert_eq!(rt;
-        status_of(&rt, alloc, &["run"], &mut folder)?,
-        Status::Refused(fault)
-    );
+    let status = status_of(&rt, rt.alloc(), &["run"], &mut folder)?;
+    assert_eq!(rt; status, Status::Refused(fault));
     assert!(rt; folder.output(OutId::Specnum).is_none());
     Ok(())
 }

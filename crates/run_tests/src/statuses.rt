@@ -25,7 +25,7 @@ fn answers<R: Threads + Sync + Abort>(
 
 #[test]
 fn answers_with_its_cause(rt: HostRuntime) -> Result<(), Fail> {
-    const CASES: [(&[&str], [u64; 2], u64, Status); 9] = [
+    const CASES: &[(&[&str], [u64; 2], u64, Status)] = &[
         (&["run"], [4, 0], 0, Status::ReadFault(FileId::Mechanism)),
         (&["run"], [2, 0], 0, Status::ReadFault(FileId::Lattice)),
         (&["run"], [1, 2], 0, Status::ReadFault(FileId::Simulation)),
@@ -37,7 +37,7 @@ fn answers_with_its_cause(rt: HostRuntime) -> Result<(), Fail> {
         (&[], [0, 0], 0, Status::BadWords),
     ];
     for (words, loads, append, status) in CASES {
-        answers(&rt, rt.alloc(), words, loads, append, status)?;
+        answers(&rt, rt.alloc(), *words, *loads, *append, *status)?;
     }
     Ok(())
 }
@@ -56,22 +56,25 @@ fn reading_fails_before_a_deck_is_refused(rt: HostRuntime) -> Result<(), Fail> {
     Ok(())
 }
 
+const FAULT: Fault = Fault {
+    file: FileId::Lattice,
+    line: 2,
+    kind: 26,
+};
+
+const NUMBERS: &[(Status, u8)] = &[
+    (Status::Done, 0),
+    (Status::BadWords, 2),
+    (Status::Refused(FAULT), 3),
+    (Status::ReadFault(FileId::Lattice), 4),
+    (Status::WriteFault(OutId::Specnum), 5),
+    (Status::ScreenFault, 6),
+    (Status::OutOfMemory, 7),
+];
+
 #[test]
 fn numbers_of_statuses(rt: HostRuntime) {
-    const FAULT: Fault = Fault {
-        file: FileId::Lattice,
-        line: 2,
-        kind: 26,
-    };
-    for (status, number) in [
-        (Status::Done, 0),
-        (Status::BadWords, 2),
-        (Status::Refused(FAULT), 3),
-        (Status::ReadFault(FileId::Lattice), 4),
-        (Status::WriteFault(OutId::Specnum), 5),
-        (Status::ScreenFault, 6),
-        (Status::OutOfMemory, 7),
-    ] {
-        assert_eq!(rt; status.number(), number);
+    for (status, number) in NUMBERS {
+        assert_eq!(rt; status.number(), *number);
     }
 }

@@ -48,7 +48,7 @@ fn writes<R: Threads + Sync + Abort>(
 
 #[test]
 fn samples_of_whole_runs(rt: HostRuntime) -> Result<(), Fail> {
-    const RUNS: [(&str, &str, &str, &str); 4] = [
+    const RUNS: &[(&str, &str, &str, &str)] = &[
         (
             "species_numbers on event 1\nmax_steps 0\nfinish\n",
             STAYS,
@@ -70,13 +70,12 @@ fn samples_of_whole_runs(rt: HostRuntime) -> Result<(), Fail> {
         ("species_numbers off\nfinish\n", FILLS, "", ""),
     ];
     for (rest, mechanism, head, lines) in RUNS {
-        let simulation = [NO_GAS, rest];
         let deck = DeckTexts {
-            simulation,
-            mechanism,
+            simulation: [NO_GAS, *rest],
+            mechanism: *mechanism,
             ..FILLED
         };
-        writes(&rt, rt.alloc(), deck, head, lines)?;
+        writes(&rt, rt.alloc(), deck, *head, *lines)?;
     }
     Ok(())
 }
@@ -110,7 +109,7 @@ fn samples_at_every_second_event(rt: HostRuntime) -> Result<(), Fail> {
 
 #[test]
 fn runs_on_each_kind_of_lattice(rt: HostRuntime) -> Result<(), Fail> {
-    const CASES: [(&str, &str); 4] = [
+    const CASES: &[(&str, &str)] = &[
         (
             "lattice default_choice\nrectangular_periodic 1 2 2\nend_lattice\n",
             FOUR_FILLED,
@@ -129,13 +128,11 @@ fn runs_on_each_kind_of_lattice(rt: HostRuntime) -> Result<(), Fail> {
         ),
     ];
     for (lattice, lines) in CASES {
-        writes(
-            &rt,
-            rt.alloc(),
-            DeckTexts { lattice, ..FILLED },
-            GAS_HEAD,
-            lines,
-        )?;
+        let deck = DeckTexts {
+            lattice: *lattice,
+            ..FILLED
+        };
+        writes(&rt, rt.alloc(), deck, GAS_HEAD, *lines)?;
     }
     Ok(())
 }
