@@ -1,5 +1,5 @@
+mod EarliestFaults
 mod FaultlessRows
-mod ListedLattice
 mod NumberLists
 mod Placed
 mod RowLookups

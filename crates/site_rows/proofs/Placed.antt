@@ -44,15 +44,16 @@ other_row rows row k some ne = row_for-other (k + 1) rows row (ne_eqb row.site (
 
 pub types_placed : (names : List (List ℕ)) (rows : List SiteRow) (row : SiteRow) (old new : List ℕ)
     → row_for row.site rows ≡ None → 1 ≤ row.site → row.site ≤ length old
-    → new ≡ set old (row.site - 1) (type_of names row.type_word) → AreTypes names rows old → AreTypes names (rows ++ row ∷ []) new
+    → new ≡ set old (row.site - 1) (type_of names row.type_word.bytes) → AreTypes names rows old → AreTypes names (rows ++ row ∷ []) new
 types_placed names rows row old new none some low is are =
     let here : row.site - 1 + 1 ≡ row.site = omega arith in
-    let long : length new ≡ length old = ap length is ∙ length-set old (row.site - 1) (type_of names row.type_word) in
+    let long : length new ≡ length old = ap length is ∙ length-set old (row.site - 1) (type_of names row.type_word.bytes) in
     is
-    ∙ placed (type_at names rows) (type_at names (rows ++ row ∷ [])) (length old) (row.site - 1) (type_of names row.type_word) old (omega arith) are
-    (ap (λ s. option_map_or (λ r. type_of names r.type_word) (row_for s (rows ++ row ∷ [])) 0) here
-    ∙ ap (λ found. option_map_or (λ r. type_of names r.type_word) found 0) (found_here rows row none))
-    (λ k ne. ap (λ found. option_map_or (λ r. type_of names r.type_word) found 0) (other_row rows row k some ne))
+    ∙ placed (type_at names rows) (type_at names (rows ++ row ∷ [])) (length old) (row.site - 1) (type_of names row.type_word.bytes) old (omega
+        arith) are
+    (ap (λ s. option_map_or (λ r. type_of names r.type_word.bytes) (row_for s (rows ++ row ∷ [])) 0) here
+    ∙ ap (λ found. option_map_or (λ r. type_of names r.type_word.bytes) found 0) (found_here rows row none))
+    (λ k ne. ap (λ found. option_map_or (λ r. type_of names r.type_word.bytes) found 0) (other_row rows row k some ne))
     ∙ ap (λ n. map (type_at names (rows ++ row ∷ [])) (range_with_len 0 n)) (sym long)
 
 pub neighbours_placed : (rows : List SiteRow) (row : SiteRow) (old new : List (Vec SiteId Global))

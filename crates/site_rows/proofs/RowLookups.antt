@@ -5,16 +5,11 @@ use Rattle.std.specs.BTreeMap.{BTreeMap, is_at}
 use Rattle.std.specs.BTreeMap as tree
 use Rattle.std.specs.BTreeSet.{BTreeSet}
 use Rattle.std.specs.BTreeSet as sorted
-use Rattle.std.specs.Option.{option_map_or}
-use Rattle.std.proofs.lemmas.List.{append-nil}
 use Rattle.std.specs.Ordering.{is_eq}
 use Rattle.std.proofs.lemmas.Bool.{cases_Bool, eqb-true}
 use Rattle.std.proofs.lemmas.Bool.Decides.{nat_tests}
-use Rattle.dec_text.specs.Lines.{WordLine}
-use Rattle.site_rows.specs.Words.{row_words}
 use Rattle.site_rows.specs.RowLookup.{HasSitesOf, IsIndexOf, Keeps, KeepsFound}
-use Rattle.site_rows.specs.RowFaults.{first_that_holds, row_fault, row_faults}
-use Rattle.site_rows.specs.SiteRows.{SiteRow, row_for, rows_of, site_row}
+use Rattle.site_rows.specs.SiteRows.{SiteRow, row_for}
 use Rattle.site_rows.specs.declared.index.RowNeighbours.{RowNeighbours}
 
 pub same_key : (a b : ℕ) → is_eq (nat_cmp a b) ≡ eqb a b
@@ -38,25 +33,6 @@ row_for-later q (r ∷ rows) more none =
 pub row_for-other : (q : ℕ) (rows : List SiteRow) (row : SiteRow) → eqb row.site q ≡ false → row_for q (rows ++ row ∷ []) ≡ row_for q rows
 row_for-other q [] row other = rw other refl
 row_for-other q (r ∷ rows) row other = ap (λ found. cond (eqb r.site q) (Some r) found) (row_for-other q rows row other)
-
-rows_with : (row : Option SiteRow) (above below whole : List SiteRow) → whole ≡ above ++ below
-    → option_map_or (λ r. r ∷ whole) row whole ≡ option_map_or (λ r. r ∷ above) row above ++ below
-rows_with None above below whole same = same
-rows_with (Some row) above below whole same = ap (λ rows. row ∷ rows) same
-
-rows_of-append : (above below : List WordLine) → rows_of (above ++ below) ≡ rows_of above ++ rows_of below
-rows_of-append [] below = refl
-rows_of-append (line ∷ above) below =
-    rows_with (site_row (row_words line)) (rows_of above) (rows_of below) (rows_of (above ++ below))
-    (rows_of-append above below)
-
--- a line without a row, and one with a row, below some lines
-pub rows_of-none : (above : List WordLine) (line : WordLine) → site_row (row_words line) ≡ None → rows_of (above ++ line ∷ []) ≡ rows_of above
-rows_of-none above line none = rows_of-append above (line ∷ []) ∙ rw none (append-nil (rows_of above))
-
-pub rows_of-pushed : (above : List WordLine) (line : WordLine) (row : SiteRow) → site_row (row_words line) ≡ Some row
-    → rows_of (above ++ line ∷ []) ≡ rows_of above ++ row ∷ []
-rows_of-pushed above line row is = rows_of-append above (line ∷ []) ∙ rw is refl
 
 none_found : (sites : Option ℕ) (kept : Option RowNeighbours) (row : Option SiteRow) → KeepsFound sites kept row → kept ≡ None → row ≡ None
 none_found sites None None keeps is = refl
@@ -136,7 +112,3 @@ pub first-from_added : (rows : List SiteRow) (site : ℕ) (added : Bool) (old : 
     → added ≡ not (sorted.contains nat_cmp old site) → HasSitesOf rows old
     → not added ≡ is_some (row_for site rows)
 first-from_added rows site added old is has = ap not is ∙ not-not (sorted.contains nat_cmp old site) ∙ has site
-
-pub read_fault : (sites : Option ℕ) (above all : List SiteRow) (words : List (List ℕ)) (row : SiteRow) → site_row words ≡ Some row
-    → row_fault sites above all words ≡ first_that_holds (row_faults sites above all row)
-read_fault sites above all words row is = rw is refl

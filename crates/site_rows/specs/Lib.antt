@@ -1,6 +1,8 @@
+pub mod Edges
 pub mod Listed
 pub mod Placing
 pub mod ReadRows
+pub mod Readings
 pub mod RowFaults
 pub mod RowLookup
 pub mod SiteRows

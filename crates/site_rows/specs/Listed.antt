@@ -9,7 +9,7 @@ use Rattle.site_rows.specs.TypeWords.{type_of}
 
 -- the type of a site, numbered from 0, by its row
 abbrev pub type_at : List (List ℕ) → List SiteRow → ℕ → ℕ
-type_at names rows site = option_map_or (λ row. type_of names row.type_word) (row_for (site + 1) rows) 0
+type_at names rows site = option_map_or (λ row. type_of names row.type_word.bytes) (row_for (site + 1) rows) 0
 
 -- its neighbours by its row, numbered from 0 too
 abbrev pub neighbours_at : List SiteRow → ℕ → List ℕ

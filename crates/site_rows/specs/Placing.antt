@@ -1,15 +1,12 @@
 -- The rows of an explicit lattice, put at their sites. Not part of what is promised: no public contract cites this.
-use Rattle.std.specs.Prelude.{ℕ, ◌≡◌, ◌≤◌, All, List, None, Some, length, map}
+use Rattle.std.specs.Prelude.{ℕ, ◌≡◌, ◌≤◌, All, List, length, map}
 use Rattle.std.specs.List.{range_with_len}
 use Rattle.std.specs.declared.alloc.Global.{Global}
 use Rattle.std.specs.declared.vec.Vec.{Vec}
-use Rattle.dec_text.specs.Lines.{WordLine}
 use Rattle.kmc_base.specs.declared.ids.SiteId.{SiteId}
 use Rattle.lattice_core.specs.SiteList.{number_lists}
-use Rattle.site_rows.specs.Words.{row_words}
 use Rattle.site_rows.specs.Listed.{neighbours_at, type_at}
-use Rattle.site_rows.specs.RowFaults.{first_fault}
-use Rattle.site_rows.specs.SiteRows.{SiteRow, row_for, site_row}
+use Rattle.site_rows.specs.SiteRows.{SiteRow}
 
 -- the number of a site, from 1
 abbrev pub IsSite : ℕ → ℕ → Type 0
@@ -20,14 +17,6 @@ pub record NamesSites (sites : ℕ) (row : SiteRow) : Type 0 where
   pub site : IsSite sites row.site
   pub neighbours : All (IsSite sites) row.neighbours
 
--- so does the row of a line, where it has one
-abbrev pub LineNamesSites : ℕ → WordLine → Type 0
-LineNamesSites sites line = (row : SiteRow) → site_row (row_words line) ≡ Some row → NamesSites sites row
-
--- and no row above has its site
-abbrev pub IsNewSite : List SiteRow → WordLine → Type 0
-IsNewSite above line = (row : SiteRow) → site_row (row_words line) ≡ Some row → row_for row.site above ≡ None
-
 -- the types of all sites, by these rows
 abbrev pub AreTypes : List (List ℕ) → List SiteRow → List ℕ → Type 0
 AreTypes names rows types = types ≡ map (type_at names rows) (range_with_len 0 (length types))
@@ -35,7 +24,3 @@ AreTypes names rows types = types ≡ map (type_at names rows) (range_with_len 0
 -- and their neighbours
 abbrev pub AreNeighbours : List SiteRow → List (Vec SiteId Global) → Type 0
 AreNeighbours rows lists = number_lists lists ≡ map (neighbours_at rows) (range_with_len 0 (length lists))
-
--- the rows of these lines, of so many sites, have no fault
-abbrev pub IsFaultless : ℕ → List WordLine → Type 0
-IsFaultless sites lines = first_fault (Some sites) lines ≡ None

@@ -1,17 +1,14 @@
 ghost use Rattle.std.specs.Prelude.{◌≡◌, ◌||◌, ◌++◌, ◌∷◌, [], ℕ, List, IfOk, OnOk, map};
 ghost use Rattle.std.specs.List.{list_any};
 ghost use Rattle.std.specs.List.Sorted.{IsStrictlyIncreasing};
-ghost use Rattle.dec_text.specs.Lines.{WordLine};
-ghost use Rattle.dec_text.specs.Spans.{line_at};
 ghost use Rattle.lattice_core.specs.SiteList.{is_listed};
 ghost use Rattle.site_rows.specs.Words.{is_no_site};
 ghost use Rattle.site_rows.specs.ReadRows.{row_at};
 ghost use Rattle.site_rows.specs.RowLookup.{IsIndexOf, Keeps};
-ghost use Rattle.site_rows.specs.SiteRows.{SiteRow, rows_of};
+ghost use Rattle.site_rows.specs.SiteRows.{SiteRow};
 
-use crate::row::{ReadRow, site_row};
+use crate::row::ReadRow;
 use crate::words::is_no_site;
-use dec_text::Line;
 use kmc_base::OutOfMemory;
 use std::alloc::Global;
 use std::collections::BTreeMap;
@@ -49,63 +46,45 @@ pub(crate) fn has_bad_site(sites: Option<u64>, site: u64, neighbours: &[u64]) ->
 }
 
 /// What is kept of a row.
-fn kept_of(sites: Option<u64>, row: ReadRow) -> RowNeighbours
-    ensures { (text : List ℕ) → Keeps sites result (row_at text row) }
+fn kept_of(alloc: Global, sites: Option<u64>, row: &ReadRow) -> Result<RowNeighbours, OutOfMemory>
+    ensures { IfOk result (λ kept. (text : List ℕ) → Keeps sites kept (row_at text row.now)) }
 {
     let has_bad_site = has_bad_site(sites, row.site, row.neighbours.as_slice());
-    let mut neighbours = row.neighbours;
+    let mut neighbours = row.neighbours.as_slice().to_vec(alloc)?;
     sort_and_dedup(&mut neighbours);
-    RowNeighbours {
+    Ok(RowNeighbours {
         has_bad_site,
         neighbours,
-    }
+    })
 }
 
 /// Keeps a row, where it is the first of its site.
 fn keep_first(
-    index: &mut BTreeMap<u64, RowNeighbours>,
-    sites: Option<u64>,
-    row: ReadRow,
-) -> Result<(), OutOfMemory>
-    ensures { OnOk result ((text : List ℕ) (rows : List SiteRow) → IsIndexOf sites rows index.old
-        → IsIndexOf sites (rows ++ row_at text row ∷ []) index.new) }
-{
-    let site = row.site;
-    if !index.contains_key(&site) {
-        index.insert(site, kept_of(sites, row))?;
-    }
-    Ok(())
-}
-
-/// Keeps the row of a line, where it has one and that is the first of its site.
-fn keep_line(
     alloc: Global,
     index: &mut BTreeMap<u64, RowNeighbours>,
-    bytes: &[u8],
     sites: Option<u64>,
-    line: &Line,
+    row: &ReadRow,
 ) -> Result<(), OutOfMemory>
-    ensures { OnOk result ((above : List WordLine) → IsIndexOf sites (rows_of above) index.old
-        → IsIndexOf sites (rows_of (above ++ line_at bytes.now line.now ∷ [])) index.new) }
+    ensures { OnOk result ((text : List ℕ) (rows : List SiteRow) → IsIndexOf sites rows index.old
+        → IsIndexOf sites (rows ++ row_at text row.now ∷ []) index.new) }
 {
-    match site_row(alloc, bytes, line)? {
-        Some(row) => keep_first(index, sites, row),
-        None => Ok(()),
+    if !index.contains_key(&row.site) {
+        index.insert(row.site, kept_of(alloc, sites, row)?)?;
     }
+    Ok(())
 }
 
 /// The first row of each site.
 pub(crate) fn index_rows(
     alloc: Global,
-    bytes: &[u8],
     sites: Option<u64>,
-    rows: &[Line],
+    rows: &[ReadRow],
 ) -> Result<BTreeMap<u64, RowNeighbours>, OutOfMemory>
-    ensures { IfOk result (IsIndexOf sites (rows_of (map (line_at bytes.now) rows.now))) }
+    ensures { IfOk result (λ index. (text : List ℕ) → IsIndexOf sites (map (row_at text) rows.now) index) }
 {
     let mut index = BTreeMap::new(alloc);
-    for line in rows {
-        keep_line(alloc, &mut index, bytes, sites, line)?;
+    for row in rows {
+        keep_first(alloc, &mut index, sites, row)?;
     }
     Ok(index)
 }

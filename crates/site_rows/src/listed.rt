@@ -1,20 +1,17 @@
-ghost use Rattle.std.specs.Prelude.{◌≡◌, ◌-◌, ◌++◌, ◌≤◌, ◌∷◌, [], All, IfOk, List, None, OnOk, Some, length, map, replicate, slice_set};
-ghost use Rattle.dec_text.specs.Lines.{WordLine};
-ghost use Rattle.dec_text.specs.Spans.{bytes_at, line_at};
+ghost use Rattle.std.specs.Prelude.{◌≡◌, ◌-◌, ◌≤◌, [], All, IfOk, None, OnOk, Some, length, map, replicate, slice_set};
+ghost use Rattle.dec_text.specs.Spans.{bytes_at};
 ghost use Rattle.lattice_core.specs.SiteList.{number_lists, site_numbers};
 ghost use Rattle.site_rows.specs.Listed.{listed_lattice};
-ghost use Rattle.site_rows.specs.Placing.{AreNeighbours, AreTypes, IsFaultless, IsNewSite, IsSite, LineNamesSites, NamesSites};
+ghost use Rattle.site_rows.specs.Placing.{AreNeighbours, AreTypes, IsSite, NamesSites};
 ghost use Rattle.site_rows.specs.ReadRows.{row_at};
-ghost use Rattle.site_rows.specs.RowFaults.{first_fault};
-ghost use Rattle.site_rows.specs.SiteRows.{rows_of};
+ghost use Rattle.site_rows.specs.RowFaults.{rows_fault};
 ghost use Rattle.site_rows.specs.TypeWords.{type_of};
 ghost use Rattle.site_rows.specs.declared.type_word.TheConstants.{MAX_SITE_TYPES};
 
-use crate::row::{ReadRow, site_row};
+use crate::row::ReadRow;
 use crate::type_index::TypeIndex;
-use dec_text::Line;
 use kmc_base::{MAX_SITES, OutOfMemory, SiteId};
-use lattice_core::Graph;
+use lattice_core::{Graph, GraphFault};
 use std::alloc::Global;
 
 /// Sites from their numbers, which are from 1.
@@ -54,38 +51,13 @@ fn place_row(
     requires within_limit { length types.old ≤ MAX_SITES }
     requires sites { NamesSites (length types.old) (row_at bytes.now row.now) }
     ensures types { OnOk result (types.new ≡ slice_set types.old (row.now.site - 1) (type_of index.now (bytes_at bytes.now row.now.type_word))) }
-    ensures lists { OnOk result (number_lists lists.new ≡ slice_set (number_lists lists.old) (row.now.site - 1) (map (λ n. n - 1) row.now.neighbours.items)) }
+    ensures lists { OnOk result (number_lists lists.new ≡ slice_set (number_lists lists.old) (row.now.site - 1) (map (λ n. n - 1)
+        row.now.neighbours.items)) }
 {
     let place = (row.site - 1) as usize;
     types[place] = index.type_of(row.type_word.bytes(bytes)) as u16;
     lists[place] = site_ids(alloc, row.neighbours.as_slice())?;
     Ok(())
-}
-
-/// Puts what the row of a line has at its site.
-fn place_line(
-    alloc: Global,
-    bytes: &[u8],
-    index: &TypeIndex,
-    types: &mut [u16],
-    lists: &mut [Vec<SiteId>],
-    line: &Line,
-) -> Result<(), OutOfMemory>
-    requires few_types { length index.now ≤ MAX_SITE_TYPES }
-    requires same_length { length lists.old ≡ length types.old }
-    requires within_limit { length types.old ≤ MAX_SITES }
-    requires sites { LineNamesSites (length types.old) (line_at bytes.now line.now) }
-    ensures types { OnOk result ((above : List WordLine) → IsNewSite (rows_of above) (line_at bytes.now line.now)
-        → AreTypes index.now (rows_of above) types.old
-        → AreTypes index.now (rows_of (above ++ line_at bytes.now line.now ∷ [])) types.new) }
-    ensures lists { OnOk result ((above : List WordLine) → IsNewSite (rows_of above) (line_at bytes.now line.now)
-        → AreNeighbours (rows_of above) lists.old
-        → AreNeighbours (rows_of (above ++ line_at bytes.now line.now ∷ [])) lists.new) }
-{
-    match site_row(alloc, bytes, line)? {
-        Some(row) => place_row(alloc, bytes, index, types, lists, &row),
-        None => Ok(()),
-    }
 }
 
 /// Puts what rows without a fault have at their sites.
@@ -95,53 +67,46 @@ fn place_rows(
     index: &TypeIndex,
     types: &mut [u16],
     lists: &mut [Vec<SiteId>],
-    rows: &[Line],
+    rows: &[ReadRow],
 ) -> Result<(), OutOfMemory>
     requires few_types { length index.now ≤ MAX_SITE_TYPES }
     requires same_length { length lists.old ≡ length types.old }
     requires within_limit { length types.old ≤ MAX_SITES }
-    requires faultless { IsFaultless (length types.old) (map (line_at bytes.now) rows.now) }
-    ensures types { OnOk result (AreTypes index.now [] types.old
-        → AreTypes index.now (rows_of (map (line_at bytes.now) rows.now)) types.new) }
-    ensures lists { OnOk result (AreNeighbours [] lists.old
-        → AreNeighbours (rows_of (map (line_at bytes.now) rows.now)) lists.new) }
+    requires faultless { rows_fault (Some (length types.old)) (map (row_at bytes.now) rows.now) ≡ None }
+    ensures types { OnOk result (AreTypes index.now [] types.old → AreTypes index.now (map (row_at bytes.now) rows.now) types.new) }
+    ensures lists { OnOk result (AreNeighbours [] lists.old → AreNeighbours (map (row_at bytes.now) rows.now) lists.new) }
 {
-    for line in rows {
-        place_line(alloc, bytes, index, types, lists, line)?;
+    for row in rows {
+        place_row(alloc, bytes, index, types, lists, row)?;
     }
     Ok(())
 }
 
-/// The lattice of rows that have no fault, one for each of `sites` sites, of which there are 1 to 65,536. The rows number
-/// them from 1, in any order; the graph numbers them from 0. `names` are the names of the site types in order,
-/// at most 1,000; types are numbered from 1, and a site whose type word is no type has type 0.
+/// The lattice of rows that have no fault, whose sites are from 1 to `sites`. The rows may be in any order; the graph
+/// numbers its sites from 0. The type words are looked up in the index of the site types, of which there are at most
+/// 1,000; a site whose type word is no type, or that has no row, has type 0.
 pub fn graph_of(
     alloc: Global,
     bytes: &[u8],
     sites: u32,
-    names: &[Vec<u8>],
-    rows: &[Line],
-) -> Result<Graph, OutOfMemory>
+    index: &TypeIndex,
+    rows: &[ReadRow],
+) -> Result<Result<Graph, GraphFault>, OutOfMemory>
     requires has_a_site { 1 ≤ sites }
     requires within_limit { sites ≤ MAX_SITES }
-    requires one_row_each { length rows.now ≡ sites }
-    requires names { length names.now ≤ MAX_SITE_TYPES }
-    requires faultless { first_fault (Some sites) (map (line_at bytes.now) rows.now) ≡ None }
-    ensures { IfOk result (λ g. g ≡ listed_lattice sites (map (λ name. name.items) names.now) (rows_of (map (line_at bytes.now) rows.now))) }
+    requires few_types { length index.now ≤ MAX_SITE_TYPES }
+    requires faultless { rows_fault (Some sites) (map (row_at bytes.now) rows.now) ≡ None }
+    ensures { IfOk result (λ graph. IfOk graph (λ g. g ≡ listed_lattice sites index.now (map (row_at bytes.now) rows.now))) }
 {
-    let index = TypeIndex::new(alloc, names)?;
     let mut types = vec![in alloc; 0u16; sites as usize]?;
     let mut lists = empty_lists(alloc, sites)?;
     place_rows(
         alloc,
         bytes,
-        &index,
+        index,
         types.as_mut_slice(),
         lists.as_mut_slice(),
         rows,
     )?;
-    match Graph::new(types, lists) {
-        Ok(graph) => Ok(graph),
-        Err(_) => unreachable!(),
-    }
+    Ok(Graph::new(types, lists))
 }

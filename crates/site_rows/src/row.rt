@@ -1,26 +1,33 @@
-ghost use Rattle.std.specs.Prelude.{◌≡◌, IfOk, map};
+ghost use Rattle.std.specs.Prelude.{◌≡◌, ℕ, IfOk, List, map};
 ghost use Rattle.std.specs.Option.{option_map};
 ghost use Rattle.dec_text.specs.Decimals.{decimal_of};
-ghost use Rattle.dec_text.specs.Spans.{bytes_at, line_at};
-ghost use Rattle.site_rows.specs.Words.{row_words};
+ghost use Rattle.dec_text.specs.Spans.{bytes_at, line_at, run_at};
+ghost use Rattle.deck_words.specs.Faults.{value_map};
 ghost use Rattle.site_rows.specs.ReadRows.{row_at};
-ghost use Rattle.site_rows.specs.SiteRows.{all_whole, is_either_out_of_range, is_out_of_range, neighbours_of, site_row};
+ghost use Rattle.site_rows.specs.Readings.{least_fault};
+ghost use Rattle.site_rows.specs.SiteRows.{all_whole, is_either_out_of_range, is_out_of_range, neighbours_of, or_form_fault, row_made, row_of,
+    rows_of, site_row};
 
+use crate::readings::{Readings, with_reading};
 use dec_text::{DecimalFault, Line, Span, read_decimal, read_whole};
+use deck_words::LineFault;
+use deck_words::kind::ROW_FORM;
 use kmc_base::OutOfMemory;
 use std::alloc::Global;
 
-/// A row of the right form.
+/// A row of `lattice_structure` of the right form.
 #[derive(Debug, Drop)]
-pub(crate) struct ReadRow {
+pub struct ReadRow {
+    /// The number of its line.
+    pub line: u32,
     /// The number of the site, from 1.
-    pub(crate) site: u64,
+    pub site: u64,
     /// The number or the name of the site's type.
-    pub(crate) type_word: Span,
+    pub type_word: Span,
     /// The numbers of the neighbours, from 1, in the order of the row.
-    pub(crate) neighbours: Vec<u64>,
+    pub neighbours: Vec<u64>,
     /// A coordinate has a power of ten outside -400 to 400.
-    pub(crate) is_out_of_range: bool,
+    pub is_out_of_range: bool,
 }
 
 /// Whole numbers, where each word writes one.
@@ -41,15 +48,14 @@ fn all_whole(alloc: Global, bytes: &[u8], words: &[Span]) -> Result<Option<Vec<u
 fn neighbours_of(
     alloc: Global,
     bytes: &[u8],
-    count: u64,
+    count: Option<u64>,
     words: &[Span],
 ) -> Result<Option<Vec<u64>>, OutOfMemory>
     ensures { IfOk result (λ numbers. option_map (λ ns. ns.items) numbers ≡ neighbours_of count (map (bytes_at bytes.now) words.now)) }
 {
-    if words.len() as u64 == count {
-        all_whole(alloc, bytes, words)
-    } else {
-        Ok(None)
+    match count {
+        Some(count) if words.len() as u64 == count => all_whole(alloc, bytes, words),
+        _ => Ok(None),
     }
 }
 
@@ -73,37 +79,88 @@ fn is_either_out_of_range(x: &[u8], y: &[u8]) -> Option<bool>
     Some(x || y)
 }
 
-/// The row of a site that some words write.
-fn row_of(alloc: Global, bytes: &[u8], words: &[Span]) -> Result<Option<ReadRow>, OutOfMemory>
-    ensures { IfOk result (λ row. option_map (row_at bytes.now) row ≡ site_row (map (bytes_at bytes.now) words.now)) }
+/// The row of these parts on a line, where each has the right form.
+fn row_made(
+    line: u32,
+    type_word: Span,
+    site: Option<u64>,
+    past: Option<bool>,
+    neighbours: Option<Vec<u64>>,
+) -> Option<ReadRow>
+    ensures { (text : List ℕ) → option_map (row_at text) result ≡ row_made line (run_at text type_word) site past (option_map (λ ns. ns.items)
+        neighbours) }
+{
+    match (site, past, neighbours) {
+        (Some(site), Some(is_out_of_range), Some(neighbours)) => Some(ReadRow {
+            line,
+            site,
+            type_word,
+            neighbours,
+            is_out_of_range,
+        }),
+        _ => None,
+    }
+}
+
+/// The row of a site that the words of a line write.
+fn row_of(
+    alloc: Global,
+    bytes: &[u8],
+    line: u32,
+    words: &[Span],
+) -> Result<Option<ReadRow>, OutOfMemory>
+    ensures { IfOk result (λ row. option_map (row_at bytes.now) row ≡ row_of line (map (run_at bytes.now) words.now)) }
 {
     let [site, x, y, type_word, count, others @ ..] = words else {
         return Ok(None);
     };
-    let site = read_whole(site.bytes(bytes));
-    let is_out_of_range = is_either_out_of_range(x.bytes(bytes), y.bytes(bytes));
-    let count = read_whole(count.bytes(bytes));
-    let (Ok(site), Some(is_out_of_range), Ok(count)) = (site, is_out_of_range, count) else {
-        return Ok(None);
-    };
-    match neighbours_of(alloc, bytes, count, others)? {
-        Some(neighbours) => Ok(Some(ReadRow {
-            site,
-            type_word: *type_word,
-            neighbours,
-            is_out_of_range,
-        })),
-        None => Ok(None),
+    let past = is_either_out_of_range(x.bytes(bytes), y.bytes(bytes));
+    let count = read_whole(count.bytes(bytes)).ok();
+    let neighbours = neighbours_of(alloc, bytes, count, others)?;
+    let site = read_whole(site.bytes(bytes)).ok();
+    Ok(row_made(line, *type_word, site, past, neighbours))
+}
+
+/// What was found on a line, or else the fault of the row's form.
+pub fn or_form_fault<T>(line: u32, found: Option<T>) -> Result<T, LineFault>
+    ensures { result ≡ or_form_fault line found }
+{
+    match found {
+        Some(row) => Ok(row),
+        None => Err(LineFault {
+            line,
+            kind: ROW_FORM,
+        }),
     }
 }
 
-/// The row of a site that a line writes.
-pub(crate) fn site_row(
+/// The row of a site on a line, or the fault of its form.
+fn site_row(
     alloc: Global,
     bytes: &[u8],
     line: &Line,
-) -> Result<Option<ReadRow>, OutOfMemory>
-    ensures { IfOk result (λ row. option_map (row_at bytes.now) row ≡ site_row (row_words (line_at bytes.now line.now))) }
+) -> Result<Result<ReadRow, LineFault>, OutOfMemory>
+    ensures { IfOk result (λ row. value_map (row_at bytes.now) row ≡ site_row (line_at bytes.now line.now)) }
 {
-    row_of(alloc, bytes, line.words.as_slice())
+    let row = row_of(alloc, bytes, line.number, line.words.as_slice())?;
+    Ok(or_form_fault(line.number, row))
+}
+
+/// The rows of the right form, and the earliest fault of the form of the others.
+pub(crate) fn read_forms(
+    alloc: Global,
+    bytes: &[u8],
+    lines: &[Line],
+) -> Result<Readings<ReadRow>, OutOfMemory>
+    ensures rows { IfOk result (λ read. map (row_at bytes.now) read.values.items ≡ rows_of (map (line_at bytes.now) lines.now)) }
+    ensures fault { IfOk result (λ read. read.fault ≡ least_fault (map site_row (map (line_at bytes.now) lines.now))) }
+{
+    let mut read = Readings {
+        values: Vec::new(alloc),
+        fault: None,
+    };
+    for line in lines {
+        read = with_reading(read, site_row(alloc, bytes, line)?)?;
+    }
+    Ok(read)
 }

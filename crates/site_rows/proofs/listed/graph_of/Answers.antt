@@ -1,36 +1,15 @@
-use Rattle.std.proofs.Common.{◌≡◌, ◌∙◌, ◌++◌, ap, arith, drop, length, map, sym, take}
-use Rattle.std.specs.List.{range_with_len}
-use Rattle.std.proofs.lemmas.List.{length-map, length-replicate, take_at}
-use Rattle.std.proofs.lemmas.Option.{none-some}
-use Rattle.dec_text.specs.Spans.{line_at}
-use Rattle.lattice_core.specs.Fault.{first_fault, lattice_from}
+use Rattle.std.proofs.Common.{◌≡◌, ◌∙◌, ◌++◌, IfOk, ap, arith, drop, length, map, subst, take}
+use Rattle.std.proofs.lemmas.List.{length-replicate, take_at}
+use Rattle.lattice_core.specs.Fault.{lattice_from}
 use Rattle.lattice_core.specs.SiteList.{number_lists}
-use Rattle.site_rows.specs.Listed.{listed_lattice, neighbours_at}
-use Rattle.site_rows.specs.SiteRows.{rows_of}
-use Rattle.site_rows.proofs.ListedLattice.{none_listed}
+use Rattle.site_rows.specs.ReadRows.{row_at}
 use Rattle.site_rows.proofs.Placed.{first_lists, first_types, list_total, listed_is}
 use Rattle.site_rows.proofs.listed.graph_of.Goals as goal
 
-pub unreachable-requires : goal.unreachable-requires
-unreachable-requires c =
-    let lines = map (line_at c.args.bytes.now) c.args.rows.now in
-    let lists = c.place_rows.new.lists in
-    let first = c.as_mut_slice-2.ensures.value in
-    let total = list_total c.in_ok-lists.lists.items c.args.sites c.in_ok-lists.ensures in
-    let long : length lists ≡ c.args.sites = c.place_rows.auto.lists ∙ ap length first ∙ total in
-    let kept = take_at lists (drop (length lists) c.in_ok-lists.lists.items) c.in_ok-lists.lists.len (omega arith) in
-    let are = c.in_ok-place_rows.ensures.lists
-    (first_lists c.as_mut_slice-2.result.now c.args.sites (ap number_lists first ∙ c.in_ok-lists.ensures)) in
-    let none = none_listed c.args.sites lines
-    (length-map c.args.rows.now (line_at c.args.bytes.now) ∙ c.requires.one_row_each) c.requires.faultless in
-    none-some _ (sym none
-    ∙ ap (λ n. first_fault (map (neighbours_at (rows_of lines)) (range_with_len 0 n))) (sym long)
-    ∙ ap first_fault (sym are ∙ ap number_lists (sym kept)) ∙ c.in-Err.ensures.fault)
-
 pub returns : goal.returns
 returns c =
-    let lines = map (line_at c.args.bytes.now) c.args.rows.now in
-    let names = c.in_ok-index.index in
+    let rows = map (row_at c.args.bytes.now) c.args.rows.now in
+    let names = c.args.index.now in
     let types = c.place_rows.new.types in
     let lists = c.place_rows.new.lists in
     let first = c.as_mut_slice-2.ensures.value in
@@ -43,8 +22,7 @@ returns c =
     let are_types = c.in_ok-place_rows.ensures.types (first_types names c.as_mut_slice.result.now c.args.sites zeros) in
     let are_lists = c.in_ok-place_rows.ensures.lists
     (first_lists c.as_mut_slice-2.result.now c.args.sites (ap number_lists first ∙ c.in_ok-lists.ensures)) in
-    c.in-Ok.ensures.graph
-    ∙ ap (λ ts. lattice_from ts (number_lists (take c.in_ok-lists.lists.len (lists ++ drop (length lists) c.in_ok-lists.lists.items)))) kept_types
+    subst (λ lattice. IfOk c.new.result (λ g. g ≡ lattice))
+    (ap (λ ts. lattice_from ts (number_lists (take c.in_ok-lists.lists.len (lists ++ drop (length lists) c.in_ok-lists.lists.items)))) kept_types
     ∙ ap (λ ls. lattice_from types (number_lists ls)) kept_lists
-    ∙ listed_is names (rows_of lines) types lists c.args.sites are_types are_lists long many
-    ∙ ap (λ ns. listed_lattice c.args.sites ns (rows_of lines)) c.in_ok-index.ensures
+    ∙ listed_is names rows types lists c.args.sites are_types are_lists long many) c.new.ensures.graph

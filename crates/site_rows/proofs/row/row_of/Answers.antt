@@ -1,50 +1,41 @@
-use Rattle.std.proofs.Common.{◌≡◌, ◌∙◌, sym, ap, arith, ℕ, Bool, List, Option, Result}
+use Rattle.std.proofs.Common.{◌≡◌, ◌∙◌, ◌-◌, sym, ap, arith, drop, get_or, length, length-drop, map, take}
+use Rattle.std.specs.Option.{option_map}
 use Rattle.std.specs.Result.{result_ok}
-use Rattle.dec_text.specs.Spans.{bytes_at}
+use Rattle.std.proofs.lemmas.List.{take_all}
+use Rattle.dec_text.specs.Spans.{bytes_at, run_at}
 use Rattle.dec_text.specs.Wholes.{whole_number}
-use Rattle.dec_text.specs.declared.faults.NotWhole.{NotWhole}
 use Rattle.dec_text.specs.declared.lines.Span.{Span}
-use Rattle.site_rows.specs.SiteRows.{is_either_out_of_range}
-use Rattle.site_rows.proofs.RowWords.{row_without_count, row_without_decimals, row_without_neighbours, row_without_site, short_row}
+use Rattle.site_rows.specs.SiteRows.{is_either_out_of_range, neighbours_of, row_made}
+use Rattle.site_rows.proofs.RowWords.{long_row, short_row}
 use Rattle.site_rows.proofs.row.row_of.Goals as goal
-use Rattle.site_rows.proofs.row.row_of.Goals.{in_default-2-via-in-Ok+in-Some+in_default, in_default-2-via-in-Ok+in_default}
-use Rattle.site_rows.proofs.row.row_of.Goals.{in_default-2-via-in_default}
-
-whole_read : (word read : List ℕ) (n found : Result ℕ NotWhole) → n ≡ whole_number read → read ≡ word → n ≡ found
-    → result_ok (whole_number word) ≡ result_ok found
-whole_read word read n found is same was = ap result_ok (ap whole_number (sym same) ∙ sym is ∙ was)
-
-past_read : (x y x_read y_read : List ℕ) (past found : Option Bool) → past ≡ is_either_out_of_range x_read y_read
-    → x_read ≡ x → y_read ≡ y → past ≡ found → is_either_out_of_range x y ≡ found
-past_read x y x_read y_read past found is same_x same_y was = cc
 
 pub returns-in_default : goal.returns-in_default
-returns-in_default c = sym (short_row (bytes_at c.args.bytes.now) c.args.words.now (omega arith))
+returns-in_default c = sym (short_row c.args.bytes.now c.args.line c.args.words.now (omega arith))
 
-pub returns-in_default-2 : goal.returns-in_default-2
-returns-in_default-2 c =
-    let none : Span = record { start = 0; end = 0 } in
-    let h = bytes_at c.args.bytes.now in
+pub returns : goal.returns
+returns c =
+    let text = c.args.bytes.now in
     let words = c.args.words.now in
-    elim c.in_default-2.branch [
-      | in_default-2-via-in-Ok+in-Some+in_default w
-          ↦ sym (row_without_count h words none (omega arith)
-          (whole_read _ _ _ _ c.read_whole-count.ensures c.bytes-4.ensures w.in_default-2.is-2))
-      | in_default-2-via-in-Ok+in_default w ↦
-          sym (row_without_decimals h words none (omega arith)
-          (past_read _ _ _ _ _ _ c.is_either_out_of_range-is_out_of_range.ensures c.bytes-2.ensures
-          c.bytes-3.ensures w.in_default-2.is-1))
-      | in_default-2-via-in_default w
-          ↦ sym (row_without_site h words none (omega arith)
-          (whole_read _ _ _ _ c.read_whole-site.ensures c.bytes.ensures w.in_default-2.is-0))
-    ]
-
-pub returns-in-None : goal.returns-in-None
-returns-in-None c =
-    let none = rw c.in-None.is at c.in_ok-neighbours.ensures in
-    let is = c.in-Ok-Some-Ok in
-    sym (row_without_neighbours (bytes_at c.args.bytes.now) c.args.words.now (record { start = 0; end = 0 }) is.site
-    is.is_out_of_range is.count (omega arith)
-    (whole_read _ _ _ _ c.read_whole-site.ensures c.bytes.ensures is.is-0)
-    (past_read _ _ _ _ _ _ c.is_either_out_of_range-is_out_of_range.ensures c.bytes-2.ensures c.bytes-3.ensures is.is-1)
-    (whole_read _ _ _ _ c.read_whole-count.ensures c.bytes-4.ensures is.is-2) (sym none))
+    let line = c.args.line in
+    let none : Span = record { start = 0; end = 0 } in
+    let others = map (bytes_at text) (drop 5 words) in
+    let whole : take (length words - 5) (drop 5 words) ≡ drop 5 words = take_all (length words - 5) (drop 5 words) (omega (arith, length-drop 5
+        words)) in
+    let site : c.ok-site.result ≡ result_ok (whole_number (bytes_at text (get_or words 0 none))) =
+    c.ok-site.ensures.value ∙ ap result_ok (c.read_whole-2.ensures ∙ ap whole_number c.bytes-4.ensures) in
+    let past : c.is_either_out_of_range-past.result
+    ≡ is_either_out_of_range (bytes_at text (get_or words 1 none)) (bytes_at text (get_or words 2 none)) =
+    cc (c.is_either_out_of_range-past.ensures, c.bytes.ensures, c.bytes-2.ensures) in
+    let count : c.ok-count.result ≡ result_ok (whole_number (bytes_at text (get_or words 4 none))) =
+    c.ok-count.ensures.value ∙ ap result_ok (c.read_whole.ensures ∙ ap whole_number c.bytes-3.ensures) in
+    let type_word = run_at text (get_or words 3 none) in
+    c.row_made.ensures text
+    ∙ ap (λ s. row_made line type_word s c.is_either_out_of_range-past.result (option_map (λ ns. ns.items) c.in_ok-neighbours.neighbours)) site
+    ∙ ap (λ p. row_made line type_word (result_ok (whole_number (bytes_at text (get_or words 0 none)))) p
+    (option_map (λ ns. ns.items) c.in_ok-neighbours.neighbours)) past
+    ∙ ap (row_made line type_word (result_ok (whole_number (bytes_at text (get_or words 0 none))))
+    (is_either_out_of_range (bytes_at text (get_or words 1 none)) (bytes_at text (get_or words 2 none))))
+    (c.in_ok-neighbours.ensures
+    ∙ ap (λ n. neighbours_of n (map (bytes_at text) (take (length words - 5) (drop 5 words)))) count
+    ∙ ap (λ ws. neighbours_of (result_ok (whole_number (bytes_at text (get_or words 4 none)))) (map (bytes_at text) ws)) whole)
+    ∙ sym (long_row text line words none (omega arith))

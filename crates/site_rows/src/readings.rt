@@ -1,0 +1,57 @@
+ghost use Rattle.std.specs.Prelude.{◌≡◌, ◌++◌, [], IfOk};
+ghost use Rattle.deck_values.specs.Lists.{fault_if};
+ghost use Rattle.site_rows.specs.Readings.{earliest, fault_of, with_value};
+
+use deck_words::{LineFault, earlier};
+use kmc_base::OutOfMemory;
+
+/// The values of those readings that have no fault, and the fault that counts of the others.
+#[derive(Debug, Drop)]
+pub struct Readings<T> {
+    /// The values, in the order of their lines.
+    pub values: Vec<T>,
+    /// The earliest fault.
+    pub fault: Option<LineFault>,
+}
+
+/// A fault on a line, where it holds.
+pub fn fault_if(holds: bool, line: u32, kind: u8) -> Option<LineFault>
+    ensures { result ≡ fault_if holds line kind }
+{
+    if holds {
+        Some(LineFault { line, kind })
+    } else {
+        None
+    }
+}
+
+/// The earlier of two faults, where there are any.
+pub fn earliest(a: Option<LineFault>, b: Option<LineFault>) -> Option<LineFault>
+    ensures { result ≡ earliest a b }
+{
+    match (a, b) {
+        (None, other) => other,
+        (Some(fault), None) => Some(fault),
+        (Some(fault), Some(other)) => Some(earlier(fault, other)),
+    }
+}
+
+/// The readings so far and one more.
+pub fn with_reading<T: Drop>(
+    mut so_far: Readings<T>,
+    next: Result<T, LineFault>,
+) -> Result<Readings<T>, OutOfMemory>
+    ensures values { IfOk result (λ all. all.values.items ≡ so_far.values.items ++ with_value next []) }
+    ensures fault { IfOk result (λ all. all.fault ≡ earliest so_far.fault (fault_of next)) }
+{
+    match next {
+        Ok(value) => {
+            so_far.values.push(value)?;
+            Ok(so_far)
+        }
+        Err(fault) => {
+            so_far.fault = earliest(so_far.fault, Some(fault));
+            Ok(so_far)
+        }
+    }
+}
