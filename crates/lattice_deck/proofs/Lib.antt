@@ -1,15 +1,5 @@
-mod CellJoins
-mod CellSizes
-mod CellSteps
-mod DefaultSound
-mod DefaultWords
+mod CellFacts
 mod Displacements
-mod FaultLines
-mod FaultlessBlocks
-mod JoinLists
-mod JoinedSites
-mod RowOrder
-mod Maps
+mod Readings
 mod SizesSound
-mod SoundNeighbours
 mod TypeWords

@@ -1,140 +1,126 @@
--- the numbers that a file states
-use Rattle.std.proofs.Common.{◌≡◌, ℕ, ◌*◌, ◌≤◌, Bool, true, false, List, [], ◌∷◌, Option, None, Some, IfSome, Result, Ok, Err, cond, inl}
-use Rattle.std.proofs.Common.{inr, arith, refl, is_none, nat_le, nat_lt, if◌then◌else◌}
-use Rattle.std.specs.Prelude.{option_and_then}
+-- what is true of the numbers that a file states
+use Rattle.std.proofs.Common.{◌≡◌, ◌∙◌, ap, arith, refl, sym, ℕ, ◌*◌, ◌≤◌, ◌<◌, Bool, true, false, List, [], ◌∷◌, Option, None, Some, IfOk, IfSome}
+use Rattle.std.proofs.Common.{Result, Ok, Err, if◌then◌else◌, length, map, nat_le, nat_lt, not, eqb}
+use Rattle.std.specs.Result.{result_ok}
 use Rattle.std.proofs.Math.Nat.{mul-le-mul_left, mul-le-mul_right}
-use Rattle.std.proofs.lemmas.Bool.{cases_Bool, and_parts, leb-true, lt-ltb, ltb-false, false≢true}
+use Rattle.std.proofs.lemmas.Bool.{and_parts, eqb-true, leb-true, ltb-false, not-false}
+use Rattle.std.proofs.lemmas.List.{length-map}
 use Rattle.kmc_base.specs.declared.limits.TheConstants.{MAX_SITES}
+use Rattle.dec_text.specs.Lines.{Run}
 use Rattle.dec_text.specs.Wholes.{whole_number}
 use Rattle.dec_text.specs.declared.faults.NotWhole.{NotWhole}
-use Rattle.deck_shape.specs.Blocks.{ItemLines}
-use Rattle.deck_shape.specs.WordLines.{words_behind}
-use Rattle.deck_shape.specs.Lists.{fault_if}
-use Rattle.deck_shape.specs.Numbers.{is_whole_within, lesser, numbers_fault, whole_kind, whole_value}
+use Rattle.deck_shape.specs.Blocks.{BlockLines, ItemLines}
+use Rattle.deck_shape.specs.LineWords.{arguments_of}
+use Rattle.deck_shape.specs.Names.{NameWord, on_line}
+use Rattle.deck_shape.specs.WordLines.{names_on as words_on, words_of}
+use Rattle.deck_values.specs.Lists.{fault_if, has_other_length, length_fault}
+use Rattle.deck_values.specs.Names.{bytes_of, names_on, repeat_fault}
+use Rattle.deck_values.specs.Numbers.{any_decimal, is_whole_in, whole_in, whole_within}
+use Rattle.deck_values.specs.Words.{one}
+use Rattle.deck_values.specs.declared.number.WholeRange.{WholeRange}
+use Rattle.deck_words.specs.Faults.{at_line, both, value_map, with_fault}
+use Rattle.deck_words.specs.declared.fault.LineFault.{LineFault}
 use Rattle.deck_words.specs.declared.keyword.Keyword.{Keyword}
-use Rattle.deck_words.specs.declared.keyword.Keyword.TheVariants.{NCellSites, NSiteTypes, NSites, RepeatCell}
-use Rattle.deck_words.specs.declared.kind.TheConstants.{OUT_OF_RANGE, TOO_MANY_SITES}
-use Rattle.deck_shape.proofs.Least.{holds_not, neither}
-use Rattle.lattice_deck.specs.Sizes.{AreRepeats, IsSizes, gives_too_many, or_else, repeats_kind, repeats_of, sites_in, sizes_in}
-use Rattle.lattice_deck.specs.Sizes.{sound_repeats, stated, whole_of}
-use Rattle.lattice_deck.specs.declared.forms.TheConstants.{REPEAT}
+use Rattle.deck_words.specs.declared.keyword.Keyword.TheVariants.{NCellSites, NSiteTypes, RepeatCell, SiteTypeNames, SiteTypes}
+use Rattle.deck_words.specs.declared.kind.TheConstants.{ARGUMENT_COUNT, LIST_LENGTH, OUT_OF_RANGE, TOO_MANY_SITES}
+use Rattle.lattice_deck.specs.Lines.{count_on, required}
+use Rattle.lattice_deck.specs.Parts.{cell_repeats, cell_sizes, names_line, sites_in, type_names, type_words, types_in}
+use Rattle.lattice_deck.specs.Sizes.{AreRepeats, IsSizes, default_on, default_repeats, gives_too_many, is_narrow, repeats_on, two_repeats}
+use Rattle.lattice_deck.specs.Sizes.{wide_enough, within_limit}
+use Rattle.lattice_deck.specs.declared.ranges.TheConstants.{REPEAT, SITE_COUNT, TYPE_COUNT}
 use Rattle.lattice_deck.specs.declared.sizes.Sizes.{Sizes}
+use Rattle.lattice_deck.proofs.Readings.{at_line_ok, both_ok, is_some, required_ok, some_ok, value_ok, when_ok, with_fault_ok}
+use Rattle.site_rows.specs.Readings.{fault_of}
 use Rattle.site_rows.specs.declared.type_word.TheConstants.{MAX_SITE_TYPES}
 
-abbrev IsUpTo : ℕ → ℕ → Type 0
-IsUpTo most n = (1 ≤ n) × (n ≤ most)
+abbrev pub IsIn : WholeRange → ℕ → Type 0
+IsIn range n = (range.least ≤ n) × (n ≤ range.most)
 
-within : (most n : ℕ) (b : Bool) → is_whole_within 1 most n ≡ b → IfSome (if nat_lt 0 (cond b n 0) then Some (cond b n 0) else None) (IsUpTo most)
-within most n false is = tt
-within most n true is =
-    let parts = and_parts (nat_le 1 n) (nat_le n most) is in
-    let low = leb-true 1 n parts.0 in
-    elim (nat_lt 0 n) as (λ b. IfSome (if b then Some n else None) (IsUpTo most)) [ true ↦ (low, leb-true n most parts.1) | false ↦ tt ]
+bounds_by : (range : WholeRange) (n : ℕ) (b : Bool) → is_whole_in range n ≡ b → IfOk (if b then Ok n else Err OUT_OF_RANGE) (IsIn range)
+bounds_by range n false is = tt
+bounds_by range n true is =
+    let parts = and_parts (nat_le range.least n) (nat_le n range.most) is in
+    (leb-true range.least n parts.0, leb-true n range.most parts.1)
 
-value_within : (most : ℕ) (r : Result ℕ NotWhole)
-    → IfSome (if nat_lt 0 (whole_value 1 most 0 r) then Some (whole_value 1 most 0 r) else None) (IsUpTo most)
-value_within most (Err e) = tt
-value_within most (Ok n) = within most n (is_whole_within 1 most n) refl
+within_bounds : (range : WholeRange) (r : Result ℕ NotWhole) → IfOk (whole_within range r) (IsIn range)
+within_bounds range (Err e) = tt
+within_bounds range (Ok n) = bounds_by range n (is_whole_in range n) refl
 
-pub whole_range : (most : ℕ) (words : List (List ℕ)) → IfSome (whole_of most words) (IsUpTo most)
-whole_range most [] = tt
-whole_range most (word ∷ words) = value_within most (whole_number word)
+one_bounds : (range : WholeRange) (words : List (List ℕ)) → IfOk (one (whole_in range) words) (IsIn range)
+one_bounds range [] = tt
+one_bounds range (word ∷ []) = within_bounds range (whole_number word)
+one_bounds range (word ∷ next ∷ words) = tt
 
-stated_range : (keyword : Keyword) (most : ℕ) (items : List ItemLines) → IfSome (stated keyword most items) (IsUpTo most)
-stated_range keyword most items =
-    elim (words_behind keyword items) as (λ w. IfSome (option_and_then (whole_of most) w) (IsUpTo most))
-    [ None ↦ tt | Some words ↦ whole_range most words ]
+count_bounds : (range : WholeRange) (item : ItemLines) → IfOk (count_on range item) (IsIn range)
+count_bounds range item = at_line_ok (IsIn range) item.line.number (one (whole_in range) (words_of item)) (one_bounds range (words_of item))
 
-either_range : (a b : Option ℕ) (most : ℕ) → IfSome a (IsUpTo most) → IfSome b (IsUpTo most) → IfSome (or_else a b) (IsUpTo most)
-either_range None b most first second = second
-either_range (Some n) b most first second = first
+pub sites_bounds : (keyword : Keyword) (block : BlockLines) → IfOk (sites_in keyword block) (IsIn SITE_COUNT)
+sites_bounds keyword block = required_ok (IsIn SITE_COUNT) keyword block (count_on SITE_COUNT) (count_bounds SITE_COUNT)
 
-pair_range : (a b : Option ℕ) (most : ℕ) → IfSome a (IsUpTo most) → IfSome b (IsUpTo most)
-    → IfSome (option_and_then (λ nx. option_and_then (λ ny. Some (nx, ny)) b) a) AreRepeats
-pair_range None b most first second = tt
-pair_range (Some nx) None most first second = tt
-pair_range (Some nx) (Some ny) most first second = (first.0, second.0)
+types_bounds : (block : BlockLines) → IfOk (types_in block) (IsIn TYPE_COUNT)
+types_bounds block = required_ok (IsIn TYPE_COUNT) NSiteTypes block (count_on TYPE_COUNT) (count_bounds TYPE_COUNT)
 
-pub repeats_range : (words : List (List ℕ)) → IfSome (repeats_of words) AreRepeats
-repeats_range [] = tt
-repeats_range (x ∷ []) = tt
-repeats_range (x ∷ y ∷ words) =
-    pair_range (whole_of 18446744073709551615 (x ∷ [])) (whole_of 18446744073709551615 (y ∷ [])) 18446744073709551615
-    (whole_range 18446744073709551615 (x ∷ [])) (whole_range 18446744073709551615 (y ∷ []))
+one_repeat : (line : ℕ) (word : List ℕ) → IfOk (at_line line (whole_in REPEAT word)) (IsIn REPEAT)
+one_repeat line word = at_line_ok (IsIn REPEAT) line (whole_in REPEAT word) (within_bounds REPEAT (whole_number word))
 
-sound_range : (sites : Option ℕ) (words : List (List ℕ)) → IfSome (sound_repeats sites words) AreRepeats
-sound_range sites words =
-    elim (is_none (repeats_kind sites words)) as (λ b. IfSome (if b then repeats_of words else None) AreRepeats)
-    [ true ↦ repeats_range words | false ↦ tt ]
+abbrev AreIn : ℕ × ℕ → Type 0
+AreIn r = IsIn REPEAT r.0 × IsIn REPEAT r.1
 
-behind_range : (sites : Option ℕ) (words : Option (List (List ℕ))) → IfSome (option_and_then (sound_repeats sites) words) AreRepeats
-behind_range sites None = tt
-behind_range sites (Some words) = sound_range sites words
+two_bounds : (line : ℕ) (words : List (List ℕ)) → IfOk (two_repeats line words) AreIn
+two_bounds line [] = tt
+two_bounds line (x ∷ []) = tt
+two_bounds line (x ∷ y ∷ []) =
+    both_ok (IsIn REPEAT) (IsIn REPEAT) (at_line line (whole_in REPEAT x)) (at_line line (whole_in REPEAT y)) (one_repeat line x) (one_repeat line y)
+two_bounds line (x ∷ y ∷ next ∷ words) = tt
 
--- the second of two kinds does not hold where no kind does
-second_none : (a b : Option ℕ) → is_none (lesser a b) ≡ true → b ≡ None
-second_none None None h = refl
-second_none None (Some b) h = absurd (false≢true h)
-second_none (Some a) None h = refl
-second_none (Some a) (Some b) h =
-    absurd (elim (nat_le a b) as (λ c. is_none (if c then Some a else Some b) ≡ true
-    → ⊥) [ true ↦ (λ k. false≢true k) | false ↦ (λ k. false≢true k) ] h)
+-- repeats without a fault
+pub record AreFew (sites : Option ℕ) (repeats : ℕ × ℕ) : Type 0 where
+  pub columns : 1 ≤ repeats.0
+  pub rows : 1 ≤ repeats.1
+  pub few : (n : ℕ) → sites ≡ Some n → repeats.0 * repeats.1 * n ≤ MAX_SITES
 
--- a whole number without a fault is known
-whole_in : (most n : ℕ) (b : Bool) → is_whole_within 1 most n ≡ b → (if b then None else Some OUT_OF_RANGE) ≡ None
-    → (m : ℕ) × ((if nat_lt 0 (if b then n else 0) then Some (if b then n else 0) else None) ≡ Some m)
-whole_in most n false is none = cc
-whole_in most n true is none =
-    let parts = and_parts (nat_le 1 n) (nat_le n most) is in
-    let low = leb-true 1 n parts.0 in
-    let some : nat_lt 0 n ≡ true = lt-ltb 0 n (omega arith) in
-    (n, rw some refl)
+not_held : (holds : Bool) (line kind : ℕ) → fault_if holds line kind ≡ None → holds ≡ false
+not_held true line kind none = absurd (cc)
+not_held false line kind none = refl
 
-whole_by : (most : ℕ) (r : Result ℕ NotWhole) → whole_kind 1 most r ≡ None
-    → (m : ℕ) × ((if nat_lt 0 (whole_value 1 most 0 r) then Some (whole_value 1 most 0 r) else None) ≡ Some m)
-whole_by most (Err e) none = cc
-whole_by most (Ok n) none = whole_in most n (is_whole_within 1 most n) refl none
+few_for : (sites : Option ℕ) (r : ℕ × ℕ) (n : ℕ) → gives_too_many sites r ≡ false → sites ≡ Some n → r.0 * r.1 * n ≤ MAX_SITES
+few_for None r n few is = absurd (cc)
+few_for (Some m) r n few is = let e : m ≡ n = cc in ltb-false MAX_SITES (r.0 * r.1 * n) (ap (λ k. nat_lt MAX_SITES (r.0 * r.1 * k)) (sym e) ∙ few)
 
-pub whole_known : (most : ℕ) (word : List ℕ) (words : List (List ℕ)) → whole_kind 1 most (whole_number word) ≡ None
-    → (m : ℕ) × (whole_of most (word ∷ words) ≡ Some m)
-whole_known most word words none = whole_by most (whole_number word) none
+limit_bounds : (sites : Option ℕ) (line : ℕ) (r : ℕ × ℕ) → AreIn r → IfOk (within_limit sites line r) (AreFew sites)
+limit_bounds sites line r are =
+    with_fault_ok (AreFew sites) (fault_if (gives_too_many sites r) line TOO_MANY_SITES) (Ok r)
+    (λ none. record { columns = are.0.0; rows = are.1.0; few = λ n is. few_for sites r n (not_held (gives_too_many sites r) line TOO_MANY_SITES none) is })
 
--- two repeats without a fault are known
-pub repeats_known : (x y : List ℕ) → numbers_fault REPEAT (x ∷ y ∷ []) ≡ None → (r : ℕ × ℕ) × (repeats_of (x ∷ y ∷ []) ≡ Some r)
-repeats_known x y none =
-    let parts = neither (whole_kind 1 18446744073709551615 (whole_number x))
-    (lesser (whole_kind 1 18446744073709551615 (whole_number y)) None) none in
-    let rest = neither (whole_kind 1 18446744073709551615 (whole_number y)) None parts.1 in
-    let first = whole_known 18446744073709551615 x [] parts.0 in
-    let second = whole_known 18446744073709551615 y [] rest.0 in
-    let pair : ℕ × ℕ = (first.0, second.0) in
-    (pair, rw (first.1, second.1) refl)
+repeats_bounds : (sites : Option ℕ) (item : ItemLines) → IfOk (repeats_on sites item) (AreFew sites)
+repeats_bounds sites item =
+    when_ok (AreFew sites) AreIn (within_limit sites item.line.number) (two_repeats item.line.number (words_of item))
+    (two_bounds item.line.number (words_of item)) (limit_bounds sites item.line.number)
 
-pub few_repeats : (sites : ℕ) (words : List (List ℕ)) (nx ny : ℕ) → sound_repeats (Some sites) words ≡ Some (nx, ny) → nx * ny * sites ≤ MAX_SITES
-few_repeats sites words nx ny is =
-    elim (cases_Bool (is_none (repeats_kind (Some sites) words))) [
-      | inl none ↦
-          let same : repeats_of words ≡ Some (nx, ny) = rw none at is in
-          let few = holds_not (gives_too_many (Some sites) (repeats_of words)) TOO_MANY_SITES
-          (second_none (numbers_fault REPEAT words)
-          (fault_if (gives_too_many (Some sites) (repeats_of words)) TOO_MANY_SITES) none) in
-          ltb-false MAX_SITES (nx * ny * sites) (rw same at few)
-      | inr some ↦ let no : None ≡ Some (nx, ny) = rw some at is in cc
-    ]
+pub cell_bounds : (block : BlockLines) → IfOk (cell_repeats block) (AreFew (result_ok (sites_in NCellSites block)))
+cell_bounds block =
+    required_ok (AreFew (result_ok (sites_in NCellSites block))) RepeatCell block (repeats_on (result_ok (sites_in NCellSites block)))
+    (repeats_bounds (result_ok (sites_in NCellSites block)))
 
-few_behind : (all : Option ℕ) (words : Option (List (List ℕ))) (sites nx ny : ℕ) → all ≡ Some sites
-    → option_and_then (sound_repeats all) words ≡ Some (nx, ny) → nx * ny * sites ≤ MAX_SITES
-few_behind all None sites nx ny known is = cc
-few_behind None (Some words) sites nx ny known is = cc
-few_behind (Some all) (Some words) sites nx ny known is = let e : all ≡ sites = cc in few_repeats sites words nx ny (rw e at is)
+default_words : (line : ℕ) (words : List (List ℕ)) → IfOk (default_repeats line words) (AreFew (Some 1))
+default_words line [] = tt
+default_words line (constant ∷ repeats) =
+    with_fault_ok (AreFew (Some 1)) (fault_of (at_line line (any_decimal constant))) _
+    (λ _. when_ok (AreFew (Some 1)) AreIn (wide_enough line) (two_repeats line repeats) (two_bounds line repeats)
+    (λ r are. with_fault_ok (AreFew (Some 1)) _ (within_limit (Some 1) line r) (λ _. limit_bounds (Some 1) line r are)))
 
-pub sizes_sound : (items : List ItemLines) → IsSizes (sizes_in items)
-sizes_sound items = record {
-  sites = either_range (stated NCellSites MAX_SITES items) (stated NSites MAX_SITES items) MAX_SITES
-      (stated_range NCellSites MAX_SITES items) (stated_range NSites MAX_SITES items);
-  types = stated_range NSiteTypes MAX_SITE_TYPES items;
-  repeats = behind_range (sites_in items) (words_behind RepeatCell items);
-  few = few_behind (sites_in items) (words_behind RepeatCell items);
+pub default_bounds : (item : ItemLines) → IfOk (default_on item) (AreFew (Some 1))
+default_bounds item = default_words item.line.number (words_of item)
+
+repeats_are : (sites : Option ℕ) (r : Result (ℕ × ℕ) LineFault) → IfOk r (AreFew sites) → IfOk r AreRepeats
+repeats_are sites (Ok r) are = (are.columns, are.rows)
+repeats_are sites (Err f) are = tt
+
+pub sizes_sound : (block : BlockLines) → IsSizes (cell_sizes block)
+sizes_sound block = record {
+  sites = some_ok (IsIn SITE_COUNT) (sites_in NCellSites block) (sites_bounds NCellSites block);
+  repeats = some_ok AreRepeats (cell_repeats block) (repeats_are (result_ok (sites_in NCellSites block)) (cell_repeats block) (cell_bounds block));
+  few = λ sites nx ny known repeated. (is_some (AreFew (result_ok (sites_in NCellSites block))) (cell_repeats block) (nx, ny) repeated (cell_bounds block)).few sites known;
 }
 
 -- each factor of a product of such numbers is at most the product
@@ -147,9 +133,50 @@ factors nx ny sites most columns rows some few =
 
 -- the repeats of a cell of a known number of sites
 pub few_of : (sizes : Sizes) → IsSizes sizes → (sites nx ny : ℕ) → sizes.sites ≡ Some sites → sizes.repeats ≡ Some (nx, ny)
-    → (1 ≤ nx) × (1 ≤ ny) × (1 ≤ sites) × (nx ≤ MAX_SITES) × (ny ≤ MAX_SITES)
+    → (nx ≤ MAX_SITES) × (ny ≤ MAX_SITES)
 few_of sizes sound sites nx ny known repeated =
     let some : 1 ≤ sites = (rw known at sound.sites).0 in
     let pair : AreRepeats (nx, ny) = rw repeated at sound.repeats in
-    let parts = factors nx ny sites MAX_SITES pair.0 pair.1 some (sound.few sites nx ny known repeated) in
-    (pair.0, pair.1, some, parts.0, parts.1)
+    factors nx ny sites MAX_SITES pair.0 pair.1 some (sound.few sites nx ny known repeated)
+
+-- a list has the length that is stated
+same_count : (n members line kind : ℕ) → fault_if (has_other_length (Some n) members) line kind ≡ None → members ≡ n
+same_count n members line kind none = eqb-true members n (not-false (eqb members n) (not_held (not (eqb members n)) line kind none))
+
+few_from : (n : ℕ) (r : Result (List (List ℕ)) LineFault) → n ≤ MAX_SITE_TYPES → IfOk r (λ names. length names ≡ n)
+    → IfOk r (λ names. length names ≤ MAX_SITE_TYPES)
+few_from n (Ok names) low is = omega (arith, is, low)
+few_from n (Err g) low is = tt
+
+names_few : (types : Result ℕ LineFault) (block : BlockLines) → IfOk types (IsIn TYPE_COUNT) → (read : Option ℕ → Result (List (List ℕ)) LineFault)
+    → ((n : ℕ) → IfOk (read (Some n)) (λ names. length names ≡ n))
+    → IfOk (with_fault (fault_of types) (read (result_ok types))) (λ names. length names ≤ MAX_SITE_TYPES)
+names_few (Err f) block are read long =
+    with_fault_ok (λ names. length names ≤ MAX_SITE_TYPES) (Some f) (read None) (λ none. absurd (cc))
+names_few (Ok n) block are read long = few_from n (read (Some n)) are.1 (long n)
+
+line_long : (n : ℕ) (item : ItemLines) → IfOk (names_line (Some n) item) (λ names. length names ≡ n)
+line_long n item =
+    let words = arguments_of item.line in
+    value_ok (λ names. length names ≡ n) bytes_of (names_on (Some n) item.line.number words)
+    (with_fault_ok (λ (runs : List Run). length (bytes_of runs) ≡ n) (length_fault item.line.number (Some n) (length words)) (with_fault (repeat_fault item.line.number (bytes_of words)) (Ok words))
+    (λ none. with_fault_ok (λ (runs : List Run). length (bytes_of runs) ≡ n) (repeat_fault item.line.number (bytes_of words)) (Ok words)
+    (λ _. length-map words (λ (word : Run). word.bytes) ∙ same_count n (length words) item.line.number LIST_LENGTH none)))
+
+pub names_bounds : (block : BlockLines) → IfOk (type_names block) (λ names. length names ≤ MAX_SITE_TYPES)
+names_bounds block =
+    names_few (types_in block) block (types_bounds block) (λ count. required SiteTypeNames block (names_line count))
+    (λ n. required_ok (λ names. length names ≡ n) SiteTypeNames block (names_line (Some n)) (line_long n))
+
+pub words_count : (n : ℕ) (block : BlockLines) → IfOk (type_words (Some n) block) (λ words. length words ≡ n)
+words_count n block =
+    required_ok (λ words. length words ≡ n) SiteTypes block _
+    (λ item. with_fault_ok (λ (words : List NameWord). length words ≡ n) _ (Ok (words_on item))
+    (λ none. length-map (arguments_of item.line) (on_line item.line.number) ∙ same_count n (length (arguments_of item.line)) item.line.number LIST_LENGTH none))
+
+-- too few repeats are given
+pub too_few : {X : Type 0} (line : ℕ) (h : X → List ℕ) (words : List X) → length words < 2
+    → two_repeats line (map h words) ≡ Err (record { line = line; kind = ARGUMENT_COUNT })
+too_few line h [] few = refl
+too_few line h (word ∷ []) few = refl
+too_few line h (word ∷ next ∷ words) few = absurd (omega arith)

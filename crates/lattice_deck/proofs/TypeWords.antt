@@ -5,6 +5,7 @@ use Rattle.std.specs.Option.{option_map}
 use Rattle.dec_text.specs.Spans.{bytes_at}
 use Rattle.deck_shape.proofs.Maps.{find-map}
 use Rattle.deck_shape.specs.Names.{NameWord, name_at}
+use Rattle.deck_words.specs.declared.fault.LineFault.{LineFault}
 use Rattle.deck_words.specs.declared.kind.TheConstants.{UNKNOWN_TYPE}
 use Rattle.deck_shape.specs.declared.name.Name.{Name}
 use Rattle.site_rows.specs.TypeWords.{type_of}
@@ -17,9 +18,9 @@ option_twice f h (Some x) = refl
 -- the first name that is no type gives the first type word that is none
 pub unknown_word : (text : List ℕ) (names : List (List ℕ)) (words : List Name) (r : Option Name)
     → r ≡ find (λ word. type_of names (bytes_at text word.span) == 0) words
-    → option_map (λ (word : Name). (word.line, UNKNOWN_TYPE)) r ≡ unknown_type names (map (name_at text) words)
+    → option_map (λ (word : Name). record { line = word.line; kind = UNKNOWN_TYPE }) r ≡ unknown_type names (map (name_at text) words)
 unknown_word text names words r is =
-    let f : NameWord → ℕ × ℕ = λ word. (word.line, UNKNOWN_TYPE) in
-    let g : Name → ℕ × ℕ = λ word. (word.line, UNKNOWN_TYPE) in
+    let f : NameWord → LineFault = λ word. record { line = word.line; kind = UNKNOWN_TYPE } in
+    let g : Name → LineFault = λ word. record { line = word.line; kind = UNKNOWN_TYPE } in
     ap (option_map g) is ∙ option_twice f (name_at text) _
     ∙ ap (option_map f) (find-map (λ (word : NameWord). type_of names word.word.bytes == 0) (name_at text) words)

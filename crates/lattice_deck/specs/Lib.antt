@@ -1,9 +1,7 @@
 pub mod Coordinates
-pub mod Faultless
-pub mod Faults
-pub mod Forms
+pub mod Ends
 pub mod Joins
+pub mod Lines
 pub mod Parts
-pub mod RowKinds
 pub mod Sizes
 pub mod Types

@@ -1,16 +1,21 @@
 -- The values of a lattice file.
-use Rattle.std.specs.Prelude.{ℕ, List, [], ◌∷◌, map, Option, None, Some, Result, Ok, Err, codes, unwrap_or}
+use Rattle.std.specs.Prelude.{ℕ, List, [], ◌∷◌, length, map, Option, Some, Result, Ok, Err, codes}
 use Rattle.std.specs.List.{find}
 use Rattle.std.specs.Option.{option_map_or}
-use Rattle.dec_text.specs.Lines.{WordLine}
+use Rattle.std.specs.Result.{result_ok}
 use Rattle.deck_shape.specs.Blocks.{BlockLines, ItemLines, has_keyword}
-use Rattle.deck_shape.specs.WordLines.{list_in, names_in, words_behind}
-use Rattle.deck_shape.specs.LineWords.{first_of, after_first}
+use Rattle.deck_shape.specs.LineWords.{arguments_of}
 use Rattle.deck_shape.specs.Names.{NameWord, name_at, on_line}
+use Rattle.deck_shape.specs.WordLines.{names_on as words_on}
+use Rattle.deck_values.specs.Lists.{fault_if, has_other_length}
+use Rattle.deck_values.specs.Names.{bytes_of, names_on}
+use Rattle.deck_words.specs.Faults.{both, value_map, with_fault}
 use Rattle.deck_words.specs.declared.fault.LineFault.{LineFault}
 use Rattle.deck_words.specs.declared.keyword.Keyword.{Keyword}
-use Rattle.deck_words.specs.declared.keyword.Keyword.TheVariants.{HexagonalPeriodic, LatticeStructure, NeighboringStructure}
-use Rattle.deck_words.specs.declared.keyword.Keyword.TheVariants.{RectangularPeriodic, SiteTypeNames, SiteTypes}
+use Rattle.deck_words.specs.declared.keyword.Keyword.TheVariants.{CellVectors, HexagonalPeriodic, LatticeStructure, MaxCoord, NCellSites}
+use Rattle.deck_words.specs.declared.keyword.Keyword.TheVariants.{NeighboringStructure, NSites, NSiteTypes, RectangularPeriodic, RepeatCell}
+use Rattle.deck_words.specs.declared.keyword.Keyword.TheVariants.{SiteCoordinates, SiteTypeNames, SiteTypes}
+use Rattle.deck_words.specs.declared.kind.TheConstants.{LIST_LENGTH, ROW_COUNT, UNKNOWN_LATTICE}
 use Rattle.deck_words.specs.declared.table.BlockForm.{BlockForm}
 use Rattle.deck_words.specs.declared.table.BlockForm.TheVariants.{DefaultChoice, PeriodicCell, Explicit}
 use Rattle.lattice_cell.specs.Default.{default_lattice}
@@ -18,13 +23,18 @@ use Rattle.lattice_cell.specs.Periodic.{periodic_lattice}
 use Rattle.lattice_cell.specs.declared.expand.DefaultLattice.{DefaultLattice}
 use Rattle.lattice_cell.specs.declared.expand.DefaultLattice.TheVariants.{Hexagonal, Rectangular}
 use Rattle.lattice_core.specs.Lattice.{Lattice}
-use Rattle.lattice_deck.specs.Faults.{first_fault}
-use Rattle.lattice_deck.specs.Joins.{joins_of}
-use Rattle.lattice_deck.specs.Sizes.{repeats_of, sizes_in}
+use Rattle.lattice_deck.specs.Coordinates.{coordinates_fault}
+use Rattle.lattice_deck.specs.Joins.{join_from, joins_on}
+use Rattle.lattice_deck.specs.Lines.{count_on, fault_in, required}
+use Rattle.lattice_deck.specs.Sizes.{default_on, repeats_on}
+use Rattle.lattice_deck.specs.declared.joins.JoinRow.{JoinRow}
 use Rattle.lattice_deck.specs.declared.part.LatticePart.{LatticePart}
 use Rattle.lattice_deck.specs.declared.sizes.Sizes.{Sizes}
+use Rattle.lattice_deck.specs.declared.ranges.TheConstants.{ANY_WHOLE, SITE_COUNT, TYPE_COUNT}
 use Rattle.site_rows.specs.Listed.{listed_lattice}
-use Rattle.site_rows.specs.SiteRows.{rows_of}
+use Rattle.site_rows.specs.Readings.{earliest, fault_of}
+use Rattle.site_rows.specs.RowFaults.{site_rows}
+use Rattle.site_rows.specs.SiteRows.{SiteRow}
 use Rattle.site_rows.specs.TypeWords.{type_of}
 
 -- the lattice, the names of the types of its sites, and the type words of the file in order
@@ -41,67 +51,110 @@ values_at text part = record {
   type_words = map (name_at text) part.type_words;
 }
 
--- the rows of a word, none where it is absent
-abbrev pub rows_in : Keyword → List ItemLines → List WordLine
-rows_in keyword items = option_map_or (λ item. item.rows) (find (has_keyword keyword) items) []
-
--- the repeats of a default lattice, behind its lattice constant
-abbrev pub behind_constant : List (List ℕ) → List (List ℕ)
-behind_constant [] = []
-behind_constant (constant ∷ repeats) = repeats
-
--- the default lattice of these words
-abbrev pub default_of : DefaultLattice → List (List ℕ) → Lattice
-default_of named words =
-    option_map_or (λ r. default_lattice named r.0 r.1) (repeats_of (behind_constant words))
-    (record { types = []; neighbours = [] })
-
--- the default lattice of a file, whose one type has the name StTp1
-abbrev pub default_values : List ItemLines → LatticeValues
-default_values items = record {
-  lattice = option_map_or (default_of Rectangular) (words_behind RectangularPeriodic items) (default_of Hexagonal (list_in HexagonalPeriodic items));
+-- a default lattice of these repeats, whose one type has the name StTp1
+abbrev pub default_values : DefaultLattice → ℕ × ℕ → LatticeValues
+default_values named repeats = record {
+  lattice = default_lattice named repeats.0 repeats.1;
   type_names = codes "StTp1" ∷ [];
   type_words = [];
 }
 
--- the lattice of a periodic cell, by its numbers, the names of types, the type words and the rows that join sites
-abbrev pub cell_of : Sizes → List (List ℕ) → List (List ℕ) → List WordLine → Lattice
-cell_of sizes names types rows =
-    let repeats = unwrap_or sizes.repeats (0, 0) in
-    periodic_lattice repeats.0 repeats.1 (map (type_of names) types) (unwrap_or (joins_of (unwrap_or sizes.sites 0) rows) [])
+-- the default lattice of a block: the rectangular one where it has that word, or else the hexagonal one
+abbrev pub default_part : BlockLines → Result LatticeValues LineFault
+default_part block =
+    option_map_or (λ item. value_map (default_values Rectangular) (default_on item)) (find (has_keyword RectangularPeriodic) block.items)
+    (value_map (default_values Hexagonal) (required HexagonalPeriodic block default_on))
 
--- the values of a file with a periodic cell
-abbrev pub cell_values : List ItemLines → LatticeValues
-cell_values items = record {
-  lattice = cell_of (sizes_in items) (list_in SiteTypeNames items) (list_in SiteTypes items) (rows_in NeighboringStructure items);
-  type_names = list_in SiteTypeNames items;
-  type_words = names_in SiteTypes items;
+-- how many sites a cell or a lattice has
+abbrev pub sites_in : Keyword → BlockLines → Result ℕ LineFault
+sites_in keyword block = required keyword block (count_on SITE_COUNT)
+
+-- how many site types there are
+abbrev pub types_in : BlockLines → Result ℕ LineFault
+types_in block = required NSiteTypes block (count_on TYPE_COUNT)
+
+-- the names on a line, of which there should be so many
+abbrev pub names_line : Option ℕ → ItemLines → Result (List (List ℕ)) LineFault
+names_line count item = value_map bytes_of (names_on count item.line.number (arguments_of item.line))
+
+-- the names of the site types, which differ
+abbrev pub type_names : BlockLines → Result (List (List ℕ)) LineFault
+type_names block = with_fault (fault_of (types_in block)) (required SiteTypeNames block (names_line (result_ok (types_in block))))
+
+-- the type words of the sites of a cell
+abbrev pub type_words : Option ℕ → BlockLines → Result (List NameWord) LineFault
+type_words sites block =
+    required SiteTypes block
+    (λ item. with_fault (fault_if (has_other_length sites (length (arguments_of item.line))) item.line.number LIST_LENGTH) (Ok (words_on item)))
+
+-- the repeats of a cell
+abbrev pub cell_repeats : BlockLines → Result (ℕ × ℕ) LineFault
+cell_repeats block = required RepeatCell block (repeats_on (result_ok (sites_in NCellSites block)))
+
+-- the numbers of a cell that other lines depend on, where they have no fault
+abbrev pub cell_sizes : BlockLines → Sizes
+cell_sizes block = record { sites = result_ok (sites_in NCellSites block); repeats = result_ok (cell_repeats block) }
+
+-- the rows that join the sites of a cell
+abbrev pub cell_joins : BlockLines → Result (List JoinRow) LineFault
+cell_joins block = required NeighboringStructure block (joins_on (cell_sizes block))
+
+-- the earliest fault of the words of a cell that are used for nothing
+abbrev pub cell_unused : BlockLines → Option LineFault
+cell_unused block =
+    earliest (fault_in CellVectors block (coordinates_fault (Some 2)))
+    (fault_in SiteCoordinates block (coordinates_fault (result_ok (sites_in NCellSites block))))
+
+-- the values of a periodic cell, by its number of sites, repeats, type names, type words and joins
+abbrev pub cell_values : (ℕ × (ℕ × ℕ)) × (List (List ℕ) × (List NameWord × List JoinRow)) → LatticeValues
+cell_values cell = record {
+  lattice = periodic_lattice cell.0.1.0 cell.0.1.1 (map (λ word. type_of cell.1.0 word.word.bytes) cell.1.1.0) (map join_from cell.1.1.1);
+  type_names = cell.1.0;
+  type_words = cell.1.1.0;
 }
 
--- the type word of a row of a site, its fourth word
-abbrev pub type_on : WordLine → NameWord
-type_on row = on_line row.number (first_of (after_first (after_first (after_first row.words))))
+-- the periodic cell of a block, or the earliest of its faults
+abbrev pub cell_part : BlockLines → Result LatticeValues LineFault
+cell_part block =
+    value_map cell_values
+    (with_fault (cell_unused block)
+    (both (both (sites_in NCellSites block) (cell_repeats block))
+    (both (type_names block) (both (type_words (result_ok (sites_in NCellSites block)) block) (cell_joins block)))))
 
--- the values of a file with a list of sites
-abbrev pub explicit_values : List ItemLines → LatticeValues
-explicit_values items = record {
-  lattice = listed_lattice (unwrap_or (sizes_in items).sites 0) (list_in SiteTypeNames items) (rows_of (rows_in LatticeStructure items));
-  type_names = list_in SiteTypeNames items;
-  type_words = map type_on (rows_in LatticeStructure items);
+-- the rows of sites below a word, of which there should be so many
+abbrev pub listed_on : Option ℕ → ItemLines → Result (List SiteRow) LineFault
+listed_on sites item = with_fault (fault_if (has_other_length sites (length item.rows)) item.line.number ROW_COUNT) (site_rows sites item.rows)
+
+-- the rows of sites of a lattice
+abbrev pub listed_rows : Option ℕ → BlockLines → Result (List SiteRow) LineFault
+listed_rows sites block = required LatticeStructure block (listed_on sites)
+
+-- the fault of the word of an explicit lattice that is used for nothing
+abbrev pub listed_unused : BlockLines → Option LineFault
+listed_unused block = fault_in MaxCoord block (λ item. fault_of (count_on ANY_WHOLE item))
+
+-- the values of an explicit lattice, by its number of sites, type names and rows
+abbrev pub listed_values : ℕ × (List (List ℕ) × List SiteRow) → LatticeValues
+listed_values listed = record {
+  lattice = listed_lattice listed.0 listed.1.0 listed.1.1;
+  type_names = listed.1.0;
+  type_words = map (λ row. on_line row.line row.type_word) listed.1.1;
 }
 
--- the values of a block, by its form; the other forms are those of no lattice
-abbrev pub values_of : BlockForm → List ItemLines → LatticeValues
-values_of DefaultChoice items = default_values items
-values_of PeriodicCell items = cell_values items
-values_of Explicit items = explicit_values items
-values_of form items = default_values items
+-- the explicit lattice of a block, or the earliest of its faults
+abbrev pub listed_part : BlockLines → Result LatticeValues LineFault
+listed_part block =
+    value_map listed_values
+    (with_fault (listed_unused block)
+    (both (sites_in NSites block) (both (type_names block) (listed_rows (result_ok (sites_in NSites block)) block))))
 
--- the values, unless there is a fault
-abbrev pub values_unless : LatticeValues → Option (ℕ × ℕ) → Result LatticeValues LineFault
-values_unless values None = Ok values
-values_unless values (Some fault) = Err (record { line = fault.0; kind = fault.1 })
+-- the values of a block of this form; the other forms are those of no lattice
+abbrev pub part_for : BlockForm → BlockLines → Result LatticeValues LineFault
+part_for DefaultChoice block = default_part block
+part_for PeriodicCell block = cell_part block
+part_for Explicit block = listed_part block
+part_for form block = Err (record { line = block.line; kind = UNKNOWN_LATTICE })
 
--- the values of the block of a lattice file, or its first fault
+-- the values of the block of a lattice file, or the earliest of its faults
 abbrev pub part_of : BlockLines → Result LatticeValues LineFault
-part_of block = values_unless (values_of block.form block.items) (first_fault block)
+part_of block = part_for block.form block

@@ -1,66 +1,55 @@
--- The numbers of a lattice file that other lines depend on; None where the line that states one has a fault.
-use Rattle.std.specs.Prelude.{ℕ, ◌≡◌, ◌≤◌, ◌*◌, IfSome, Bool, false, List, [], ◌∷◌, Option, None, Some, if◌then◌else◌, is_none, nat_lt}
-use Rattle.std.specs.Prelude.{option_and_then}
+-- How often the cells of a lattice are repeated.
+use Rattle.std.specs.Prelude.{ℕ, ◌==◌, ◌≡◌, ◌||◌, ◌≤◌, ◌*◌, IfSome, Bool, false, List, [], ◌∷◌, Option, None, Some, Result, Ok, Err, nat_lt}
 use Rattle.kmc_base.specs.declared.limits.TheConstants.{MAX_SITES}
-use Rattle.dec_text.specs.Wholes.{whole_number}
 use Rattle.deck_shape.specs.Blocks.{ItemLines}
-use Rattle.deck_shape.specs.WordLines.{words_behind}
-use Rattle.deck_shape.specs.Lists.{fault_if}
-use Rattle.deck_shape.specs.Numbers.{lesser, numbers_fault, whole_value}
-use Rattle.deck_words.specs.declared.keyword.Keyword.{Keyword}
-use Rattle.deck_words.specs.declared.keyword.Keyword.TheVariants.{NCellSites, NSiteTypes, NSites, RepeatCell}
-use Rattle.deck_words.specs.declared.kind.TheConstants.{TOO_MANY_SITES}
-use Rattle.lattice_deck.specs.declared.forms.TheConstants.{REPEAT}
+use Rattle.deck_shape.specs.WordLines.{words_of}
+use Rattle.deck_values.specs.Lists.{fault_if}
+use Rattle.deck_values.specs.Numbers.{any_decimal, whole_in}
+use Rattle.deck_words.specs.Faults.{at_line, both, with_fault}
+use Rattle.deck_words.specs.declared.fault.LineFault.{LineFault}
+use Rattle.deck_words.specs.declared.kind.TheConstants.{ARGUMENT_COUNT, SELF_NEIGHBOUR, TOO_MANY_SITES}
+use Rattle.lattice_deck.specs.Lines.{when_read}
+use Rattle.lattice_deck.specs.declared.ranges.TheConstants.{REPEAT}
 use Rattle.lattice_deck.specs.declared.sizes.Sizes.{Sizes}
-use Rattle.site_rows.specs.declared.type_word.TheConstants.{MAX_SITE_TYPES}
+use Rattle.site_rows.specs.Readings.{fault_of}
 
--- the whole number of some words, from 1 to most, where they have no fault
-abbrev pub whole_of : ℕ → List (List ℕ) → Option ℕ
-whole_of most [] = None
-whole_of most (word ∷ words) =
-    let n = whole_value 1 most 0 (whole_number word) in if nat_lt 0 n then Some n else None
+-- the repeats in the two directions, each at least 1
+abbrev pub two_repeats : ℕ → List (List ℕ) → Result (ℕ × ℕ) LineFault
+two_repeats line [] = Err (record { line = line; kind = ARGUMENT_COUNT })
+two_repeats line (x ∷ []) = Err (record { line = line; kind = ARGUMENT_COUNT })
+two_repeats line (x ∷ y ∷ []) = both (at_line line (whole_in REPEAT x)) (at_line line (whole_in REPEAT y))
+two_repeats line (x ∷ y ∷ next ∷ words) = Err (record { line = line; kind = ARGUMENT_COUNT })
 
--- the two repeats of some words, where both are whole numbers of at least 1
-abbrev pub repeats_of : List (List ℕ) → Option (ℕ × ℕ)
-repeats_of [] = None
-repeats_of (x ∷ []) = None
-repeats_of (x ∷ y ∷ words) =
-    option_and_then (λ nx. option_and_then (λ ny. Some (nx, ny)) (whole_of 18446744073709551615 (y ∷ []))) (whole_of 18446744073709551615 (x ∷ []))
-
--- repeats of a cell of so many sites give more than 65,536 sites, where both are known
-abbrev pub gives_too_many : Option ℕ → Option (ℕ × ℕ) → Bool
+-- repeats of a cell of so many sites give more than 65,536 sites, where that number is known
+abbrev pub gives_too_many : Option ℕ → ℕ × ℕ → Bool
 gives_too_many None repeats = false
-gives_too_many (Some sites) None = false
-gives_too_many (Some sites) (Some repeats) = nat_lt MAX_SITES (repeats.0 * repeats.1 * sites)
+gives_too_many (Some sites) repeats = nat_lt MAX_SITES (repeats.0 * repeats.1 * sites)
 
--- the fault of two repeats of a cell of so many sites
-abbrev pub repeats_kind : Option ℕ → List (List ℕ) → Option ℕ
-repeats_kind sites words = lesser (numbers_fault REPEAT words) (fault_if (gives_too_many sites (repeats_of words)) TOO_MANY_SITES)
+-- repeats of a cell of so many sites, unless they give too many
+abbrev pub within_limit : Option ℕ → ℕ → ℕ × ℕ → Result (ℕ × ℕ) LineFault
+within_limit sites line repeats = with_fault (fault_if (gives_too_many sites repeats) line TOO_MANY_SITES) (Ok repeats)
 
--- the repeats of some words, where their line has no fault
-abbrev pub sound_repeats : Option ℕ → List (List ℕ) → Option (ℕ × ℕ)
-sound_repeats sites words = if is_none (repeats_kind sites words) then repeats_of words else None
+-- the repeats on a line, for a cell of so many sites
+abbrev pub repeats_on : Option ℕ → ItemLines → Result (ℕ × ℕ) LineFault
+repeats_on sites item = when_read (within_limit sites item.line.number) (two_repeats item.line.number (words_of item))
 
--- the number that a keyword states
-abbrev pub stated : Keyword → ℕ → List ItemLines → Option ℕ
-stated keyword most items = option_and_then (whole_of most) (words_behind keyword items)
+-- a direction with one cell makes each site of a default lattice its own neighbour
+abbrev pub is_narrow : ℕ × ℕ → Bool
+is_narrow repeats = repeats.0 == 1 || repeats.1 == 1
 
--- a number, or the other one where there is none
-abbrev pub or_else : Option ℕ → Option ℕ → Option ℕ
-or_else None other = other
-or_else (Some n) other = Some n
+-- repeats of a cell of one site, each direction of which should have two cells
+abbrev pub wide_enough : ℕ → ℕ × ℕ → Result (ℕ × ℕ) LineFault
+wide_enough line repeats = with_fault (fault_if (is_narrow repeats) line SELF_NEIGHBOUR) (within_limit (Some 1) line repeats)
 
--- the number of sites that is stated: of a cell, or of the lattice
-abbrev pub sites_in : List ItemLines → Option ℕ
-sites_in items = or_else (stated NCellSites MAX_SITES items) (stated NSites MAX_SITES items)
+-- the repeats of a default lattice, behind its lattice constant, which is used for nothing
+abbrev pub default_repeats : ℕ → List (List ℕ) → Result (ℕ × ℕ) LineFault
+default_repeats line [] = Err (record { line = line; kind = ARGUMENT_COUNT })
+default_repeats line (constant ∷ repeats) =
+    with_fault (fault_of (at_line line (any_decimal constant))) (when_read (wide_enough line) (two_repeats line repeats))
 
--- the numbers that the lines of a file state
-abbrev pub sizes_in : List ItemLines → Sizes
-sizes_in items = record {
-  sites = sites_in items;
-  types = stated NSiteTypes MAX_SITE_TYPES items;
-  repeats = option_and_then (sound_repeats (sites_in items)) (words_behind RepeatCell items);
-}
+-- the repeats of the default lattice on a line
+abbrev pub default_on : ItemLines → Result (ℕ × ℕ) LineFault
+default_on item = default_repeats item.line.number (words_of item)
 
 -- each direction has a cell
 abbrev pub AreRepeats : ℕ × ℕ → Type 0
@@ -69,6 +58,5 @@ AreRepeats repeats = (1 ≤ repeats.0) × (1 ≤ repeats.1)
 -- what is true of the numbers of every file: each is at least 1, and the repeats give at most 65,536 sites
 pub record IsSizes (sizes : Sizes) : Type 0 where
   pub sites : IfSome sizes.sites (λ n. (1 ≤ n) × (n ≤ MAX_SITES))
-  pub types : IfSome sizes.types (λ n. (1 ≤ n) × (n ≤ MAX_SITE_TYPES))
   pub repeats : IfSome sizes.repeats AreRepeats
   pub few : (sites nx ny : ℕ) → sizes.sites ≡ Some sites → sizes.repeats ≡ Some (nx, ny) → nx * ny * sites ≤ MAX_SITES

@@ -1,23 +1,32 @@
 ghost use Rattle.std.specs.Prelude.{◌≡◌, ◌∷◌, ◌==◌, ◌&&◌, ◌≤◌, [], All, IfOk, IfSome, map};
-ghost use Rattle.std.specs.List.{after_first, before_first, position};
-ghost use Rattle.std.specs.Option.{option_map};
 ghost use Rattle.dec_text.specs.Spans.{bytes_at, line_at};
+ghost use Rattle.deck_shape.specs.Blocks.{block_at, item_at};
+ghost use Rattle.deck_words.specs.Faults.{value_map};
 ghost use Rattle.kmc_base.specs.declared.limits.TheConstants.{MAX_SITES};
 ghost use Rattle.lattice_cell.specs.Cells.{IsInCell, displaced};
-ghost use Rattle.lattice_deck.specs.Joins.{crowds, edge_of, has_bad_end, is_dash, join_kind, join_of, join_on, join_row_kind, joins_itself, joins_of, leads_back, sound_join, toward_of};
+ghost use Rattle.lattice_deck.specs.Ends.{AreEnds, HasEnds};
+ghost use Rattle.lattice_deck.specs.Joins.{crowd_fault, crowds, has_bad_end, itself_fault, join_from, join_of, join_row, joins_itself, joins_on, leads_back, sound_joins, toward_of, with_ends};
+ghost use Rattle.lattice_deck.specs.Lines.{required};
 ghost use Rattle.lattice_deck.specs.Sizes.{AreRepeats, IsSizes};
+ghost use Rattle.site_rows.specs.Readings.{least, least_fault, values_of};
 
+use crate::lines::missing_word;
 use crate::sizes::Sizes;
-use dec_text::{Line, Span, read_whole};
-use deck_shape::kind::{BAD_EDGE, ROW_FORM, SELF_NEIGHBOUR};
+use dec_text::{Line, Span};
+use deck_shape::{Block, Item, Keyword};
+use deck_words::kind::{BAD_EDGE, SELF_NEIGHBOUR, TOO_MANY_NEIGHBOURS};
+use deck_words::{LineFault, with_fault};
 use kmc_base::OutOfMemory;
 use lattice_cell::{Join, Toward, is_crowded};
-use site_rows::{is_no_site, row_words};
+use site_rows::{
+    Readings, earliest, edge_of, fault_if, is_no_site, or_form_fault, row_words, with_reading,
+};
 use std::alloc::Global;
 
 /// A row of `neighboring_structure`: the two sites of the cell, from 1, and the cell of the second.
 #[derive(Clone, Copy, Debug)]
 pub(crate) struct JoinRow {
+    line: u32,
     from: u64,
     to: u64,
     toward: Toward,
@@ -37,48 +46,26 @@ fn toward_of(word: &[u8]) -> Option<Toward>
     }
 }
 
-fn first_dash(word: &[u8]) -> Option<usize>
-    ensures { result ≡ position is_dash word.now }
-{
-    word.iter().position(|b| *b == b'-')
-}
-
-/// What is before the first `-` of a word, and what is behind it.
-fn split_edge(word: &[u8]) -> (&[u8], &[u8])
-    ensures before { result.0.now ≡ before_first is_dash word.now }
-    ensures after { result.1.now ≡ after_first is_dash word.now }
-{
-    match first_dash(word) {
-        Some(at) => (&word[..at], &word[at + 1..]),
-        None => (word, &[]),
-    }
-}
-
-/// The two whole numbers of an edge `i-j`.
-fn edge_of(word: &[u8]) -> Option<(u64, u64)>
-    ensures { result ≡ edge_of word.now }
-{
-    let (before, after) = split_edge(word);
-    let i = read_whole(before).ok()?;
-    let j = read_whole(after).ok()?;
-    Some((i, j))
-}
-
-/// The row that an edge and a displacement write.
-fn row_of(edge: &[u8], toward: &[u8]) -> Option<JoinRow>
-    ensures { result ≡ join_of (edge.now ∷ toward.now ∷ []) }
+/// The row that an edge and a displacement on a line write.
+fn row_of(line: u32, edge: &[u8], toward: &[u8]) -> Option<JoinRow>
+    ensures { result ≡ join_of line (edge.now ∷ toward.now ∷ []) }
 {
     let (from, to) = edge_of(edge)?;
     let toward = toward_of(toward)?;
-    Some(JoinRow { from, to, toward })
+    Some(JoinRow {
+        line,
+        from,
+        to,
+        toward,
+    })
 }
 
-/// The row that two words write.
-fn join_of(bytes: &[u8], words: &[Span]) -> Option<JoinRow>
-    ensures { result ≡ join_of (map (bytes_at bytes.now) words.now) }
+/// The row that the two words of a line write.
+fn join_of(line: u32, bytes: &[u8], words: &[Span]) -> Option<JoinRow>
+    ensures { result ≡ join_of line (map (bytes_at bytes.now) words.now) }
 {
     match words {
-        [edge, toward] => row_of(edge.bytes(bytes), toward.bytes(bytes)),
+        [edge, toward] => row_of(line, edge.bytes(bytes), toward.bytes(bytes)),
         [] | [_] | [_, _, _, ..] => None,
     }
 }
@@ -87,6 +74,53 @@ fn has_bad_end(sites: Option<u64>, row: JoinRow) -> bool
     ensures { result ≡ has_bad_end sites row }
 {
     is_no_site(sites, row.from) || is_no_site(sites, row.to)
+}
+
+/// A row, unless an end of it is no site.
+fn with_ends(sites: Option<u64>, row: JoinRow) -> Result<JoinRow, LineFault>
+    ensures value { result ≡ with_ends sites row }
+    ensures ends { IfOk result (HasEnds sites) }
+{
+    if has_bad_end(sites, row) {
+        Err(LineFault {
+            line: row.line,
+            kind: BAD_EDGE,
+        })
+    } else {
+        Ok(row)
+    }
+}
+
+/// The row of a line, or the fault of its form or of an end.
+fn join_row(sites: Option<u64>, bytes: &[u8], row: &Line) -> Result<JoinRow, LineFault>
+    ensures value { result ≡ join_row sites (line_at bytes.now row.now) }
+    ensures ends { IfOk result (HasEnds sites) }
+{
+    match or_form_fault(row.number, join_of(row.number, bytes, row_words(row))) {
+        Ok(row) => with_ends(sites, row),
+        Err(fault) => Err(fault),
+    }
+}
+
+/// The rows of the right form that end in the cell, and the earliest fault of the others.
+fn read_joins(
+    alloc: Global,
+    sites: Option<u64>,
+    bytes: &[u8],
+    rows: &[Line],
+) -> Result<Readings<JoinRow>, OutOfMemory>
+    ensures rows { IfOk result (λ read. read.values.items ≡ values_of (map (join_row sites) (map (line_at bytes.now) rows.now))) }
+    ensures fault { IfOk result (λ read. read.fault ≡ least_fault (map (join_row sites) (map (line_at bytes.now) rows.now))) }
+    ensures ends { IfOk result (λ read. AreEnds sites read.values.items) }
+{
+    let mut read = Readings {
+        values: Vec::new(alloc),
+        fault: None,
+    };
+    for row in rows {
+        read = with_reading(read, join_row(sites, bytes, row))?;
+    }
+    Ok(read)
 }
 
 fn is_one_cell(nx: u64, ny: u64) -> bool
@@ -130,95 +164,117 @@ fn joins_itself(repeats: Option<(u64, u64)>, row: JoinRow) -> bool
     row.from == row.to && leads_back(repeats, row.toward)
 }
 
-/// The fault of a row that has the right form.
-fn join_row_kind(sizes: &Sizes, row: JoinRow) -> Option<u8>
-    requires { IsSizes sizes.now }
-    ensures { result ≡ join_row_kind sizes.now row }
+/// The earliest fault of rows that join a site to itself.
+fn itself_faults(repeats: Option<(u64, u64)>, rows: &[JoinRow]) -> Option<LineFault>
+    requires { IfSome repeats AreRepeats }
+    ensures { result ≡ least (map (itself_fault repeats) rows.now) }
 {
-    if has_bad_end(sizes.sites, row) {
-        Some(BAD_EDGE)
-    } else if joins_itself(sizes.repeats, row) {
-        Some(SELF_NEIGHBOUR)
-    } else {
-        None
+    let mut fault = None;
+    for row in rows {
+        let is_own = joins_itself(repeats, *row);
+        fault = earliest(fault, fault_if(is_own, row.line, SELF_NEIGHBOUR));
     }
+    fault
 }
 
-/// The fault of a row.
-pub(crate) fn join_kind(sizes: &Sizes, bytes: &[u8], words: &[Span]) -> Option<u8>
-    requires { IsSizes sizes.now }
-    ensures { result ≡ join_kind sizes.now (map (bytes_at bytes.now) words.now) }
+/// The join of a row, with sites from 0.
+fn join_from(sites: u64, row: JoinRow) -> Join
+    requires few { sites ≤ MAX_SITES }
+    requires ends { HasEnds (Some sites) row }
+    ensures value { result ≡ join_from row }
+    ensures ends { IsInCell sites result }
 {
-    match join_of(bytes, words) {
-        Some(row) => join_row_kind(sizes, row),
-        None => Some(ROW_FORM),
-    }
-}
-
-/// The join of a row, with sites from 0, where its ends are sites of the cell.
-fn sound_join(sites: u64, row: JoinRow) -> Option<Join>
-    requires { sites ≤ MAX_SITES }
-    ensures value { result ≡ sound_join sites row }
-    ensures ends { IfSome result (IsInCell sites) }
-{
-    if has_bad_end(Some(sites), row) {
-        return None;
-    }
-    Some(Join {
+    Join {
         from: (row.from - 1) as u32,
         to: (row.to - 1) as u32,
         toward: row.toward,
-    })
-}
-
-/// The join of a line, where it has the right form and ends in the cell.
-fn join_on(sites: u64, bytes: &[u8], row: &Line) -> Option<Join>
-    requires { sites ≤ MAX_SITES }
-    ensures value { result ≡ join_on sites (line_at bytes.now row.now) }
-    ensures ends { IfSome result (IsInCell sites) }
-{
-    match join_of(bytes, row_words(row)) {
-        Some(row) => sound_join(sites, row),
-        None => None,
     }
 }
 
-/// The joins of all rows, where each has the right form and ends in the cell.
-pub(crate) fn joins_of(
+/// The joins of rows, with sites from 0.
+pub(crate) fn joins_from(
     alloc: Global,
     sites: u64,
-    bytes: &[u8],
-    rows: &[Line],
-) -> Result<Option<Vec<Join>>, OutOfMemory>
-    requires { sites ≤ MAX_SITES }
-    ensures value { IfOk result (λ joins. option_map (λ v. v.items) joins ≡ joins_of sites (map (line_at bytes.now) rows.now)) }
-    ensures ends { IfOk result (λ joins. IfSome joins (λ v. All (IsInCell sites) v.items)) }
+    rows: &[JoinRow],
+) -> Result<Vec<Join>, OutOfMemory>
+    requires few { sites ≤ MAX_SITES }
+    requires ends { AreEnds (Some sites) rows.now }
+    ensures value { IfOk result (λ joins. joins.items ≡ map join_from rows.now) }
+    ensures ends { IfOk result (λ joins. All (IsInCell sites) joins.items) }
 {
     let mut joins = Vec::new(alloc);
     for row in rows {
-        match join_on(sites, bytes, row) {
-            Some(join) => joins.push(join)?,
-            None => return Ok(None),
-        }
+        joins.push(join_from(sites, *row))?;
     }
-    Ok(Some(joins))
+    Ok(joins)
 }
 
-/// Some site has more than 32 neighbours, where the number of sites, the repeats and all rows are known.
-pub(crate) fn crowds(
-    alloc: Global,
-    sizes: &Sizes,
-    bytes: &[u8],
-    rows: &[Line],
-) -> Result<bool, OutOfMemory>
-    requires { IsSizes sizes.now }
-    ensures { IfOk result (λ b. b ≡ crowds sizes.now (map (line_at bytes.now) rows.now)) }
+/// Some site has more than 32 neighbours, where the number of sites and the repeats are known.
+fn crowds(alloc: Global, sizes: &Sizes, rows: &[JoinRow]) -> Result<bool, OutOfMemory>
+    requires sizes { IsSizes sizes.now }
+    requires ends { AreEnds sizes.now.sites rows.now }
+    ensures { IfOk result (λ b. b ≡ crowds sizes.now.sites sizes.now.repeats rows.now) }
 {
     let (Some(sites), Some((nx, ny))) = (sizes.sites, sizes.repeats) else {
         return Ok(false);
     };
-    match joins_of(alloc, sites, bytes, rows)? {
-        Some(joins) => is_crowded(alloc, nx as u32, ny as u32, sites as u32, &joins),
-        None => Ok(false),
+    let joins = joins_from(alloc, sites, rows)?;
+    is_crowded(alloc, nx as u32, ny as u32, sites as u32, &joins)
+}
+
+/// The fault of a word with a site of too many neighbours, where every row has the right form and ends in the cell.
+fn crowd_fault(
+    alloc: Global,
+    sizes: &Sizes,
+    line: u32,
+    of_rows: Option<LineFault>,
+    rows: &[JoinRow],
+) -> Result<Option<LineFault>, OutOfMemory>
+    requires sizes { IsSizes sizes.now }
+    requires ends { AreEnds sizes.now.sites rows.now }
+    ensures { IfOk result (λ fault. fault ≡ crowd_fault sizes.now line of_rows rows.now) }
+{
+    match of_rows {
+        Some(_) => Ok(None),
+        None => Ok(fault_if(crowds(alloc, sizes, rows)?, line, TOO_MANY_NEIGHBOURS)),
+    }
+}
+
+/// The rows that join sites, below a word, or the earliest of their faults.
+fn joins_on(
+    alloc: Global,
+    sizes: &Sizes,
+    bytes: &[u8],
+    item: &Item,
+) -> Result<Result<Vec<JoinRow>, LineFault>, OutOfMemory>
+    requires { IsSizes sizes.now }
+    ensures value { IfOk result (λ joins. value_map (λ rows. rows.items) joins ≡ joins_on sizes.now (item_at bytes.now item.now)) }
+    ensures ends { IfOk result (λ joins. IfOk joins (λ rows. AreEnds sizes.now.sites rows.items)) }
+{
+    let read = read_joins(alloc, sizes.sites, bytes, item.rows.as_slice())?;
+    let rows = read.values.as_slice();
+    let crowd = crowd_fault(alloc, sizes, item.line.number, read.fault, rows)?;
+    let fault = earliest(
+        crowd,
+        earliest(read.fault, itself_faults(sizes.repeats, rows)),
+    );
+    Ok(with_fault(fault, Ok(read.values)))
+}
+
+/// The rows that join the sites of a cell.
+pub(crate) fn cell_joins(
+    alloc: Global,
+    sizes: &Sizes,
+    bytes: &[u8],
+    block: &Block,
+) -> Result<Result<Vec<JoinRow>, LineFault>, OutOfMemory>
+    requires { IsSizes sizes.now }
+    ensures value { IfOk result (λ joins. value_map (λ rows. rows.items) joins
+        ≡ required Keyword.NeighboringStructure (block_at bytes.now block.now) (joins_on sizes.now)) }
+    ensures ends { IfOk result (λ joins. IfOk joins (λ rows. AreEnds sizes.now.sites rows.items)) }
+{
+    match block.item(bytes, Keyword::NeighboringStructure) {
+        Some(item) => joins_on(alloc, sizes, bytes, item),
+        None => Ok(Err(missing_word(block))),
     }
 }

@@ -1,34 +1,28 @@
 ghost use Rattle.std.specs.Prelude.{◌≡◌, IfErr, IfOk, Ok};
 ghost use Rattle.deck_shape.specs.Blocks.{block_at};
-ghost use Rattle.deck_shape.specs.Shapes.{IsFaultOf, IsShapeOf};
-ghost use Rattle.deck_shape.specs.WholeBlocks.{IsLatticeForm, IsWhole};
+ghost use Rattle.deck_shape.specs.Shapes.{IsFaultOf};
 ghost use Rattle.kmc_base.specs.declared.ids.FileId.TheVariants.{Lattice};
-ghost use Rattle.lattice_deck.specs.Faultless.{AreFaultless};
 ghost use Rattle.lattice_deck.specs.Parts.{part_of, values_at};
 
-use crate::faults::first_fault;
 use crate::part::LatticePart;
-use crate::values::values_of;
+use crate::values::part_of;
 use deck_shape::{Block, DeckFault, Fault, Shape};
 use kmc_base::FileId;
 use std::alloc::Global;
 
-/// The values of a block without faults of form, or its first fault.
+/// The values of a block, or its fault.
 fn read_block(alloc: Global, bytes: &[u8], block: &Block) -> Result<LatticePart, DeckFault>
-    requires form { IsLatticeForm block.now.form }
-    requires whole { IsWhole (block_at bytes.now block.now) }
     ensures values { IfOk result (λ part. part_of (block_at bytes.now block.now) ≡ Ok (values_at bytes.now part)) }
-    ensures sound { IfOk result (λ _. AreFaultless block.now.form (block_at bytes.now block.now).items) }
     ensures fault { IfErr result (IsFaultOf Lattice (part_of (block_at bytes.now block.now))) }
 {
-    if let Some((line, kind)) = first_fault(alloc, block, bytes)? {
-        return Err(DeckFault::Fault(Fault {
+    match part_of(alloc, bytes, block)? {
+        Ok(part) => Ok(part),
+        Err(fault) => Err(DeckFault::Fault(Fault {
             file: FileId::Lattice,
-            line,
-            kind,
-        }));
+            line: fault.line,
+            kind: fault.kind,
+        })),
     }
-    Ok(values_of(alloc, block, bytes)?)
 }
 
 /// The values of a lattice file, or its first fault of a value.
@@ -37,9 +31,7 @@ fn read_block(alloc: Global, bytes: &[u8], block: &Block) -> Result<LatticePart,
 /// that hold at the first faulty line the least is the fault. A fault that depends on a number of another line is found
 /// where that number has none itself. A type word that is no type is no fault here: its site has type 0 in the graph.
 pub fn read(alloc: Global, bytes: &[u8], shape: &Shape) -> Result<LatticePart, DeckFault>
-    requires { IsShapeOf Lattice bytes.now shape.now }
     ensures values { IfOk result (λ part. part_of (block_at bytes.now shape.now.block) ≡ Ok (values_at bytes.now part)) }
-    ensures sound { IfOk result (λ _. AreFaultless shape.now.block.form (block_at bytes.now shape.now.block).items) }
     ensures fault { IfErr result (IsFaultOf Lattice (part_of (block_at bytes.now shape.now.block))) }
 {
     read_block(alloc, bytes, &shape.block)

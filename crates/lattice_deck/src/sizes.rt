@@ -1,47 +1,42 @@
 ghost use Rattle.std.specs.Prelude.{◌≡◌, ◌*◌, map, nat_lt};
 ghost use Rattle.dec_text.specs.Spans.{bytes_at};
-ghost use Rattle.deck_shape.specs.Blocks.{block_at};
-ghost use Rattle.lattice_deck.specs.Sizes.{IsSizes, gives_too_many, repeats_kind, repeats_of, sites_in, sizes_in, sound_repeats, stated, whole_of};
+ghost use Rattle.deck_shape.specs.Blocks.{block_at, item_at};
+ghost use Rattle.lattice_deck.specs.Lines.{required, when_read};
+ghost use Rattle.lattice_deck.specs.Sizes.{default_on, default_repeats, gives_too_many, is_narrow, repeats_on, two_repeats, wide_enough, within_limit};
 
-use crate::forms::REPEAT;
+use crate::lines::{fault_of, missing_word};
+use crate::ranges::REPEAT;
 use dec_text::Span;
-use deck_shape::kind::TOO_MANY_SITES;
-use deck_shape::{Block, Keyword, fault_if, lesser, numbers_fault, whole_value};
+use deck_shape::{Block, Item, Keyword};
+use deck_values::{any_decimal, whole_in};
+use deck_words::kind::{ARGUMENT_COUNT, SELF_NEIGHBOUR, TOO_MANY_SITES};
+use deck_words::{LineFault, at_line, both, with_fault};
 use kmc_base::MAX_SITES;
-use site_rows::MAX_SITE_TYPES;
+use site_rows::fault_if;
 
-/// The numbers of a lattice file that other lines depend on; `None` where the line that states one has a fault.
+/// The numbers of a periodic cell that other lines depend on; `None` where the line that states one has a fault.
 #[derive(Clone, Copy, Debug)]
 pub(crate) struct Sizes {
-    /// How many sites a cell or an explicit lattice has.
+    /// How many sites the cell has.
     pub(crate) sites: Option<u64>,
-    /// How many site types there are.
-    pub(crate) types: Option<u64>,
-    /// How often a cell is repeated in its two directions.
+    /// How often it is repeated in its two directions.
     pub(crate) repeats: Option<(u64, u64)>,
 }
 
-/// The whole number of some words, from 1 to `most`, where they have no fault.
-fn whole_of(most: u64, bytes: &[u8], words: &[Span]) -> Option<u64>
-    ensures { result ≡ whole_of most (map (bytes_at bytes.now) words.now) }
+/// The repeats in the two directions, each at least 1.
+fn two_repeats(line: u32, bytes: &[u8], words: &[Span]) -> Result<(u64, u64), LineFault>
+    ensures { result ≡ two_repeats line (map (bytes_at bytes.now) words.now) }
 {
-    let [word, ..] = words else {
-        return None;
-    };
-    let n = whole_value(1, most, 0, word.bytes(bytes));
-    if 0 < n { Some(n) } else { None }
-}
-
-/// The two repeats of some words, where both are whole numbers of at least 1.
-pub(crate) fn repeats_of(bytes: &[u8], words: &[Span]) -> Option<(u64, u64)>
-    ensures { result ≡ repeats_of (map (bytes_at bytes.now) words.now) }
-{
-    let [x, y, ..] = words else {
-        return None;
-    };
-    let nx = whole_of(u64::MAX, bytes, &[*x])?;
-    let ny = whole_of(u64::MAX, bytes, &[*y])?;
-    Some((nx, ny))
+    match words {
+        [x, y] => both(
+            at_line(line, whole_in(REPEAT, x.bytes(bytes))),
+            at_line(line, whole_in(REPEAT, y.bytes(bytes))),
+        ),
+        [] | [_] | [_, _, _, ..] => Err(LineFault {
+            line,
+            kind: ARGUMENT_COUNT,
+        }),
+    }
 }
 
 /// So many repeats of a cell of so many sites give more than 65,536 sites.
@@ -55,77 +50,95 @@ fn is_past_limit(nx: u64, ny: u64, sites: u64) -> bool
     }
 }
 
-/// Repeats of a cell of so many sites give more than 65,536 sites, where both are known.
-fn gives_too_many(sites: Option<u64>, repeats: Option<(u64, u64)>) -> bool
+/// Repeats of a cell of so many sites give more than 65,536 sites, where that number is known.
+fn gives_too_many(sites: Option<u64>, repeats: (u64, u64)) -> bool
     ensures { result ≡ gives_too_many sites repeats }
 {
-    match (sites, repeats) {
-        (Some(sites), Some((nx, ny))) => is_past_limit(nx, ny, sites),
-        (None, _) | (_, None) => false,
+    match sites {
+        Some(sites) => is_past_limit(repeats.0, repeats.1, sites),
+        None => false,
     }
 }
 
-/// The fault of two repeats of a cell of so many sites.
-pub(crate) fn repeats_kind(sites: Option<u64>, bytes: &[u8], words: &[Span]) -> Option<u8>
-    ensures { result ≡ repeats_kind sites (map (bytes_at bytes.now) words.now) }
+/// Repeats of a cell of so many sites, unless they give too many.
+fn within_limit(sites: Option<u64>, line: u32, repeats: (u64, u64)) -> Result<(u64, u64), LineFault>
+    ensures { result ≡ within_limit sites line repeats }
 {
-    lesser(
-        numbers_fault(REPEAT, bytes, words),
-        fault_if(
-            gives_too_many(sites, repeats_of(bytes, words)),
-            TOO_MANY_SITES,
-        ),
-    )
+    let too_many = gives_too_many(sites, repeats);
+    with_fault(fault_if(too_many, line, TOO_MANY_SITES), Ok(repeats))
 }
 
-/// The repeats of some words, where their line has no fault.
-fn sound_repeats(sites: Option<u64>, bytes: &[u8], words: &[Span]) -> Option<(u64, u64)>
-    ensures { result ≡ sound_repeats sites (map (bytes_at bytes.now) words.now) }
+/// The repeats on a line, for a cell of so many sites.
+fn repeats_on(sites: Option<u64>, bytes: &[u8], item: &Item) -> Result<(u64, u64), LineFault>
+    ensures { result ≡ repeats_on sites (item_at bytes.now item.now) }
 {
-    match repeats_kind(sites, bytes, words) {
-        None => repeats_of(bytes, words),
-        Some(_) => None,
+    let line = item.line.number;
+    match two_repeats(line, bytes, item.arguments()) {
+        Ok(repeats) => within_limit(sites, line, repeats),
+        Err(fault) => Err(fault),
     }
 }
 
-/// The number that a keyword states.
-fn stated(block: &Block, bytes: &[u8], keyword: Keyword, most: u64) -> Option<u64>
-    ensures { result ≡ stated keyword most (block_at bytes.now block.now).items }
+/// The repeats of a cell of so many sites.
+pub(crate) fn cell_repeats(
+    block: &Block,
+    bytes: &[u8],
+    sites: Option<u64>,
+) -> Result<(u64, u64), LineFault>
+    ensures { result ≡ required Keyword.RepeatCell (block_at bytes.now block.now) (repeats_on sites) }
 {
-    match block.words_behind(bytes, keyword) {
-        Some(words) => whole_of(most, bytes, words),
-        None => None,
+    match block.item(bytes, Keyword::RepeatCell) {
+        Some(item) => repeats_on(sites, bytes, item),
+        None => Err(missing_word(block)),
     }
 }
 
-/// The number of sites that is stated: of a cell, or of the lattice.
-fn sites_in(block: &Block, bytes: &[u8]) -> Option<u64>
-    ensures { result ≡ sites_in (block_at bytes.now block.now).items }
+/// A direction with one cell makes each site of a default lattice its own neighbour.
+fn is_narrow(repeats: (u64, u64)) -> bool
+    ensures { result ≡ is_narrow repeats }
 {
-    match stated(block, bytes, Keyword::NCellSites, u64::from(MAX_SITES)) {
-        Some(sites) => Some(sites),
-        None => stated(block, bytes, Keyword::NSites, u64::from(MAX_SITES)),
+    repeats.0 == 1 || repeats.1 == 1
+}
+
+/// Repeats of a cell of one site, each direction of which should have two cells.
+fn wide_enough(line: u32, repeats: (u64, u64)) -> Result<(u64, u64), LineFault>
+    ensures { result ≡ wide_enough line repeats }
+{
+    let narrow = fault_if(is_narrow(repeats), line, SELF_NEIGHBOUR);
+    with_fault(narrow, within_limit(Some(1), line, repeats))
+}
+
+/// Repeats that are read, where each direction should have two cells.
+fn all_wide_enough(
+    line: u32,
+    repeats: Result<(u64, u64), LineFault>,
+) -> Result<(u64, u64), LineFault>
+    ensures { result ≡ when_read (wide_enough line) repeats }
+{
+    match repeats {
+        Ok(repeats) => wide_enough(line, repeats),
+        Err(fault) => Err(fault),
     }
 }
 
-/// The repeats that are stated.
-fn repeats_in(block: &Block, bytes: &[u8]) -> Option<(u64, u64)>
-    ensures { result ≡ (sizes_in (block_at bytes.now block.now).items).repeats }
+/// The repeats of a default lattice, behind its lattice constant, which is used for nothing.
+fn default_repeats(line: u32, bytes: &[u8], words: &[Span]) -> Result<(u64, u64), LineFault>
+    ensures { result ≡ default_repeats line (map (bytes_at bytes.now) words.now) }
 {
-    match block.words_behind(bytes, Keyword::RepeatCell) {
-        Some(words) => sound_repeats(sites_in(block, bytes), bytes, words),
-        None => None,
-    }
+    let [constant, repeats @ ..] = words else {
+        return Err(LineFault {
+            line,
+            kind: ARGUMENT_COUNT,
+        });
+    };
+    let constant = fault_of(at_line(line, any_decimal(constant.bytes(bytes))));
+    let repeats = all_wide_enough(line, two_repeats(line, bytes, repeats));
+    with_fault(constant, repeats)
 }
 
-/// The numbers of a lattice file.
-pub(crate) fn sizes_in(block: &Block, bytes: &[u8]) -> Sizes
-    ensures value { result ≡ sizes_in (block_at bytes.now block.now).items }
-    ensures sound { IsSizes result }
+/// The repeats of the default lattice on a line.
+pub(crate) fn default_on(bytes: &[u8], item: &Item) -> Result<(u64, u64), LineFault>
+    ensures { result ≡ default_on (item_at bytes.now item.now) }
 {
-    Sizes {
-        sites: sites_in(block, bytes),
-        types: stated(block, bytes, Keyword::NSiteTypes, MAX_SITE_TYPES as u64),
-        repeats: repeats_in(block, bytes),
-    }
+    default_repeats(item.line.number, bytes, item.arguments())
 }

@@ -10,7 +10,8 @@ ghost use Rattle.site_rows.specs.TypeWords.{type_of};
 
 use crate::part::LatticePart;
 use deck_shape::Name;
-use deck_shape::kind::UNKNOWN_TYPE;
+use deck_words::LineFault;
+use deck_words::kind::UNKNOWN_TYPE;
 use kmc_base::OutOfMemory;
 use site_rows::TypeIndex;
 use std::alloc::Global;
@@ -24,20 +25,23 @@ fn first_unknown<'a>(bytes: &[u8], index: &TypeIndex, words: &'a [Name]) -> Opti
         .find(|word| index.type_of(word.span.bytes(bytes)) == 0)
 }
 
-/// The first type word of a lattice file that is neither the number of a type, from 1, nor the name of one: its line, and
-/// the kind `UNKNOWN_TYPE`. The type words are those of `site_types` in a periodic cell, and the fourth word of each row
+/// The first type word of a lattice file that is neither the number of a type, from 1, nor the name of one: a fault of its line,
+/// of the kind `UNKNOWN_TYPE`. The type words are those of `site_types` in a periodic cell, and the fourth word of each row
 /// of an explicit lattice; a default lattice has none.
 pub fn unknown_type(
     alloc: Global,
     bytes: &[u8],
     part: &LatticePart,
-) -> Result<Option<(u32, u8)>, OutOfMemory>
+) -> Result<Option<LineFault>, OutOfMemory>
     ensures { IfOk result (λ fault. fault ≡ unknown_type (values_at bytes.now part.now).type_names (values_at bytes.now part.now).type_words) }
 {
     let index = TypeIndex::new(alloc, part.type_names.as_slice())?;
     let words = part.type_words.as_slice();
     match first_unknown(bytes, &index, words) {
-        Some(word) => Ok(Some((word.line, UNKNOWN_TYPE))),
+        Some(word) => Ok(Some(LineFault {
+            line: word.line,
+            kind: UNKNOWN_TYPE,
+        })),
         None => Ok(None),
     }
 }

@@ -1,109 +1,44 @@
-ghost use Rattle.std.specs.Prelude.{◌≡◌, ◌*◌, ◌≤◌, ℕ, List, All, IfOk, None, length, map, unwrap_or};
-ghost use Rattle.dec_text.specs.Spans.{bytes_at, line_at, run_at};
-ghost use Rattle.deck_shape.specs.Blocks.{block_at};
-ghost use Rattle.deck_shape.specs.Names.{name_at};
+ghost use Rattle.std.specs.Prelude.{◌≡◌, ◌*◌, ◌≤◌, ℕ, List, IfOk, None, Some, length, map};
+ghost use Rattle.std.specs.Result.{result_ok};
+ghost use Rattle.dec_text.specs.Spans.{line_at};
+ghost use Rattle.deck_shape.specs.Blocks.{block_at, item_at};
+ghost use Rattle.deck_shape.specs.Names.{name_at, on_line};
+ghost use Rattle.deck_words.specs.Faults.{value_map};
 ghost use Rattle.kmc_base.specs.declared.limits.TheConstants.{MAX_SITES};
-ghost use Rattle.lattice_cell.specs.Cells.{IsInCell};
-ghost use Rattle.lattice_cell.specs.Default.{default_lattice};
-ghost use Rattle.lattice_cell.specs.Periodic.{neighbour_lists, periodic_lattice};
-ghost use Rattle.lattice_core.specs.Fault.{first_fault};
-ghost use Rattle.lattice_deck.specs.Faultless.{AreFaultless, HasDefault, IsCell, IsDefault, IsExplicit};
-ghost use Rattle.lattice_deck.specs.Parts.{behind_constant, cell_of, cell_values, default_of, default_values, explicit_values, rows_in, type_on, values_at, values_of};
-ghost use Rattle.site_rows.specs.Listed.{listed_lattice};
-ghost use Rattle.site_rows.specs.SiteRows.{rows_of};
-ghost use Rattle.site_rows.specs.TypeWords.{type_of};
+ghost use Rattle.lattice_deck.specs.Ends.{AreEnds};
+ghost use Rattle.lattice_deck.specs.Parts.{cell_part, cell_unused, cell_values, default_part, default_values, listed_on, listed_part, listed_rows, listed_unused, part_for, sites_in, values_at};
+ghost use Rattle.lattice_deck.specs.Sizes.{AreRepeats, default_on};
+ghost use Rattle.site_rows.specs.ReadRows.{row_at};
+ghost use Rattle.site_rows.specs.RowFaults.{rows_fault};
 ghost use Rattle.site_rows.specs.declared.type_word.TheConstants.{MAX_SITE_TYPES};
 
-use crate::joins::joins_of;
+use crate::coordinates::coordinates_in;
+use crate::graphs::{cell_graph, default_graph, listed_graph};
+use crate::joins::{JoinRow, cell_joins};
+use crate::lines::{count_on, fault_of, missing_word, number_in};
+use crate::names::{type_names, type_words};
 use crate::part::LatticePart;
-use crate::sizes::{Sizes, repeats_of, sizes_in};
-use dec_text::{Line, Span};
-use deck_shape::{Block, BlockForm, Keyword, NO_WORD, Name};
+use crate::ranges::{ANY_WHOLE, SITE_COUNT};
+use crate::sizes::{Sizes, cell_repeats, default_on};
+use deck_shape::{Block, BlockForm, Item, Keyword, Name, has_other_length};
+use deck_words::kind::{ROW_COUNT, UNKNOWN_LATTICE};
+use deck_words::{LineFault, both, with_fault};
 use kmc_base::{OutOfMemory, Sequence};
-use lattice_cell::{DefaultLattice, Join, expand_default, expand_periodic};
-use lattice_core::{Graph, GraphFault};
-use site_rows::TypeIndex;
+use lattice_cell::DefaultLattice;
+use site_rows::{ReadRow, earliest, fault_if, read_rows};
 use std::alloc::Global;
 
-/// The rows of a word, none where it is absent.
-fn rows_in<'a>(block: &'a Block, bytes: &[u8], keyword: Keyword) -> &'a [Line]
-    ensures { map (line_at bytes.now) result.now ≡ rows_in keyword (block_at bytes.now block.now).items }
-{
-    match block.item(bytes, keyword) {
-        Some(item) => item.rows.as_slice(),
-        None => &[],
-    }
-}
-
-/// The only fault of a lattice whose neighbours have none: out of memory.
-fn out_of_memory(fault: GraphFault) -> OutOfMemory
-    requires { fault ≡ GraphFault.OutOfMemory }
-{
-    match fault {
-        GraphFault::OutOfMemory => OutOfMemory,
-        _ => unreachable!(),
-    }
-}
-
-/// A default lattice of so many repeats.
-fn named_graph(alloc: Global, named: DefaultLattice, nx: u64, ny: u64) -> Result<Graph, OutOfMemory>
-    requires columns { 2 ≤ nx }
-    requires rows { 2 ≤ ny }
-    requires few { nx * ny ≤ MAX_SITES }
-    ensures { IfOk result (λ g. g ≡ default_lattice named nx ny) }
-{
-    match expand_default(alloc, named, nx as u32, ny as u32) {
-        Ok(graph) => Ok(graph),
-        Err(fault) => Err(out_of_memory(fault)),
-    }
-}
-
-/// The words behind the lattice constant of a default lattice.
-fn behind_constant(words: &[Span]) -> &[Span]
-    ensures { (text : List ℕ) → map (bytes_at text) result.now ≡ behind_constant (map (bytes_at text) words.now) }
-{
-    match words {
-        [_, repeats @ ..] => repeats,
-        [] => &[],
-    }
-}
-
-/// The default lattice of words without a fault.
-fn default_of(
+/// The values of a default lattice, whose one type has the name StTp1.
+fn default_values(
     alloc: Global,
     named: DefaultLattice,
-    bytes: &[u8],
-    words: &[Span],
-) -> Result<Graph, OutOfMemory>
-    requires { IsDefault (map (bytes_at bytes.now) words.now) }
-    ensures { IfOk result (λ g. g ≡ default_of named (map (bytes_at bytes.now) words.now)) }
+    repeats: (u64, u64),
+) -> Result<LatticePart, OutOfMemory>
+    requires some { AreRepeats repeats }
+    requires few { repeats.0 * repeats.1 ≤ MAX_SITES }
+    ensures { IfOk result (λ part. (text : List ℕ) → values_at text part ≡ default_values named repeats) }
 {
-    match repeats_of(bytes, behind_constant(words)) {
-        Some((nx, ny)) => named_graph(alloc, named, nx, ny),
-        None => unreachable!(),
-    }
-}
-
-/// The default lattice of a file.
-fn default_graph(alloc: Global, block: &Block, bytes: &[u8]) -> Result<Graph, OutOfMemory>
-    requires { HasDefault (block_at bytes.now block.now).items }
-    ensures { IfOk result (λ g. g ≡ (default_values (block_at bytes.now block.now).items).lattice) }
-{
-    match block.words_behind(bytes, Keyword::RectangularPeriodic) {
-        Some(words) => default_of(alloc, DefaultLattice::Rectangular, bytes, words),
-        None => {
-            let words = block.list_in(bytes, Keyword::HexagonalPeriodic);
-            default_of(alloc, DefaultLattice::Hexagonal, bytes, words)
-        }
-    }
-}
-
-/// The values of a file with a default lattice.
-fn default_part(alloc: Global, block: &Block, bytes: &[u8]) -> Result<LatticePart, OutOfMemory>
-    requires { HasDefault (block_at bytes.now block.now).items }
-    ensures { IfOk result (λ part. values_at bytes.now part ≡ default_values (block_at bytes.now block.now).items) }
-{
-    let graph = default_graph(alloc, block, bytes)?;
+    let graph = default_graph(alloc, named, repeats)?;
     let name = b"StTp1".to_vec(alloc)?;
     Ok(LatticePart {
         graph,
@@ -112,184 +47,194 @@ fn default_part(alloc: Global, block: &Block, bytes: &[u8]) -> Result<LatticePar
     })
 }
 
-/// A repeated cell, whose neighbours have no fault.
-fn repeated_graph(
+/// The default lattice of a line.
+fn named_part(
     alloc: Global,
-    nx: u32,
-    ny: u32,
-    types: &[u16],
-    joins: &[Join],
-) -> Result<Graph, OutOfMemory>
-    requires has_a_site { 1 ≤ nx * ny * length types.now }
-    requires within_limit { nx * ny * length types.now ≤ MAX_SITES }
-    requires ends { All (IsInCell (length types.now)) joins.now }
-    requires none { first_fault (neighbour_lists nx ny (length types.now) joins.now) ≡ None }
-    ensures { IfOk result (λ g. g ≡ periodic_lattice nx ny types.now joins.now) }
+    named: DefaultLattice,
+    bytes: &[u8],
+    item: &Item,
+) -> Result<Result<LatticePart, LineFault>, OutOfMemory>
+    ensures { IfOk result (λ part. value_map (values_at bytes.now) part ≡ value_map (default_values named) (default_on (item_at bytes.now item.now))) }
 {
-    match expand_periodic(alloc, nx, ny, types, joins) {
-        Ok(graph) => Ok(graph),
-        Err(fault) => Err(out_of_memory(fault)),
+    match default_on(bytes, item) {
+        Ok(repeats) => Ok(Ok(default_values(alloc, named, repeats)?)),
+        Err(fault) => Ok(Err(fault)),
     }
 }
 
-/// The types of type words, by an index of the names.
-fn indexed_types(
+/// The default lattice of a block.
+fn default_part(
     alloc: Global,
     bytes: &[u8],
-    index: &TypeIndex,
-    words: &[Span],
-) -> Result<Vec<u16>, OutOfMemory>
-    requires { length index.now ≤ MAX_SITE_TYPES }
-    ensures { IfOk result (λ types. types.items ≡ map (type_of index.now) (map (bytes_at bytes.now) words.now)) }
+    block: &Block,
+) -> Result<Result<LatticePart, LineFault>, OutOfMemory>
+    ensures { IfOk result (λ part. value_map (values_at bytes.now) part ≡ default_part (block_at bytes.now block.now)) }
 {
-    let mut types = Vec::new(alloc);
-    for word in words {
-        types.push(index.type_of(word.bytes(bytes)) as u16)?;
+    if let Some(item) = block.item(bytes, Keyword::RectangularPeriodic) {
+        return named_part(alloc, DefaultLattice::Rectangular, bytes, item);
     }
-    Ok(types)
-}
-
-/// The types of type words.
-fn types_of(
-    alloc: Global,
-    bytes: &[u8],
-    names: &[Vec<u8>],
-    words: &[Span],
-) -> Result<Vec<u16>, OutOfMemory>
-    requires { length names.now ≤ MAX_SITE_TYPES }
-    ensures { IfOk result (λ types. types.items ≡ map (type_of (map (λ name. name.items) names.now)) (map (bytes_at bytes.now) words.now)) }
-{
-    let index = TypeIndex::new(alloc, names)?;
-    indexed_types(alloc, bytes, &index, words)
-}
-
-/// The lattice of a periodic cell.
-fn cell_graph(
-    alloc: Global,
-    sizes: &Sizes,
-    bytes: &[u8],
-    names: &[Vec<u8>],
-    types: &[Span],
-    rows: &[Line],
-) -> Result<Graph, OutOfMemory>
-    requires { IsCell sizes.now (map (λ name. name.items) names.now) (map (bytes_at bytes.now) types.now) (map (line_at bytes.now) rows.now) }
-    ensures { IfOk result (λ g. g ≡ cell_of sizes.now (map (λ name. name.items) names.now) (map (bytes_at bytes.now) types.now) (map (line_at bytes.now) rows.now)) }
-{
-    let (Some(sites), Some((nx, ny))) = (sizes.sites, sizes.repeats) else {
-        unreachable!();
-    };
-    let Some(joins) = joins_of(alloc, sites, bytes, rows)? else {
-        unreachable!();
-    };
-    let types = types_of(alloc, bytes, names, types)?;
-    repeated_graph(alloc, nx as u32, ny as u32, &types, &joins)
-}
-
-/// The bytes of words.
-fn copies_of(alloc: Global, bytes: &[u8], words: &[Span]) -> Result<Vec<Vec<u8>>, OutOfMemory>
-    ensures { IfOk result (λ names. map (λ name. name.items) names.items ≡ map (bytes_at bytes.now) words.now) }
-{
-    let mut copies = Vec::new(alloc);
-    for word in words {
-        copies.push(word.bytes(bytes).to_vec(alloc)?)?;
+    match block.item(bytes, Keyword::HexagonalPeriodic) {
+        Some(item) => named_part(alloc, DefaultLattice::Hexagonal, bytes, item),
+        None => Ok(Err(missing_word(block))),
     }
-    Ok(copies)
 }
 
-/// The values of a file with a periodic cell.
-fn cell_part(alloc: Global, block: &Block, bytes: &[u8]) -> Result<LatticePart, OutOfMemory>
-    requires { AreFaultless BlockForm.PeriodicCell (block_at bytes.now block.now).items }
-    ensures { IfOk result (λ part. values_at bytes.now part ≡ cell_values (block_at bytes.now block.now).items) }
+/// The earliest fault of the words of a cell that are used for nothing.
+fn cell_unused(bytes: &[u8], block: &Block, sites: Option<u64>) -> Option<LineFault>
+    requires { sites ≡ result_ok (sites_in Keyword.NCellSites (block_at bytes.now block.now)) }
+    ensures { result ≡ cell_unused (block_at bytes.now block.now) }
 {
-    let sizes = sizes_in(block, bytes);
-    let names = copies_of(alloc, bytes, block.list_in(bytes, Keyword::SiteTypeNames))?;
-    let types = block.list_in(bytes, Keyword::SiteTypes);
-    let rows = rows_in(block, bytes, Keyword::NeighboringStructure);
-    let graph = cell_graph(alloc, &sizes, bytes, &names, types, rows)?;
+    earliest(
+        coordinates_in(block, bytes, Keyword::CellVectors, Some(2)),
+        coordinates_in(block, bytes, Keyword::SiteCoordinates, sites),
+    )
+}
+
+/// What is read of a periodic cell: its number of sites and repeats, type names, type words and joins.
+type CellRead = ((u64, (u64, u64)), (Vec<Vec<u8>>, (Vec<Name>, Vec<JoinRow>)));
+
+/// The values of a periodic cell.
+fn cell_values(alloc: Global, bytes: &[u8], cell: CellRead) -> Result<LatticePart, OutOfMemory>
+    requires some { AreRepeats cell.0.1 }
+    requires some_sites { 1 ≤ length cell.1.1.0.items }
+    requires few { cell.0.1.0 * cell.0.1.1 * length cell.1.1.0.items ≤ MAX_SITES }
+    requires names { length cell.1.0.items ≤ MAX_SITE_TYPES }
+    requires ends { AreEnds (Some (length cell.1.1.0.items)) cell.1.1.1.items }
+    ensures { IfOk result (λ part. values_at bytes.now part
+        ≡ cell_values (cell.0, (map (λ name. name.items) cell.1.0.items, (map (name_at bytes.now) cell.1.1.0.items, cell.1.1.1.items)))) }
+{
+    let (sizes, lists) = cell;
+    let (names, rest) = lists;
+    let (words, rows) = rest;
+    let graph = cell_graph(alloc, bytes, sizes.1, &names, &words, &rows)?;
     Ok(LatticePart {
         graph,
         type_names: Sequence::new(names),
-        type_words: Sequence::new(block.names_in(alloc, bytes, Keyword::SiteTypes)?),
+        type_words: Sequence::new(words),
     })
 }
 
-/// The fourth word of a row of a site; an empty place where it has none.
-fn type_word(row: &Line) -> Span
-    ensures { (text : List ℕ) → run_at text result ≡ (type_on (line_at text row.now)).word }
+/// The periodic cell of a block.
+fn cell_part(
+    alloc: Global,
+    bytes: &[u8],
+    block: &Block,
+) -> Result<Result<LatticePart, LineFault>, OutOfMemory>
+    ensures { IfOk result (λ part. value_map (values_at bytes.now) part ≡ cell_part (block_at bytes.now block.now)) }
 {
-    match row.words.as_slice() {
-        [_, _, _, word, ..] => *word,
-        [] | [_] | [_, _] | [_, _, _] => NO_WORD,
+    let sites = number_in(block, bytes, Keyword::NCellSites, SITE_COUNT);
+    let repeats = cell_repeats(block, bytes, sites.ok());
+    let sizes = Sizes {
+        sites: sites.ok(),
+        repeats: repeats.ok(),
+    };
+    let names = type_names(alloc, bytes, block)?;
+    let words = type_words(alloc, bytes, block, sites.ok())?;
+    let joins = cell_joins(alloc, &sizes, bytes, block)?;
+    let unused = cell_unused(bytes, block, sites.ok());
+    let read = both(both(sites, repeats), both(names, both(words, joins)));
+    match with_fault(unused, read) {
+        Ok(cell) => Ok(Ok(cell_values(alloc, bytes, cell)?)),
+        Err(fault) => Ok(Err(fault)),
     }
 }
 
-/// The type word of a row of a site.
-fn type_on(row: &Line) -> Name
-    ensures { (text : List ℕ) → name_at text result ≡ type_on (line_at text row.now) }
+/// The rows of sites on the lines below a word.
+fn rows_on(
+    alloc: Global,
+    bytes: &[u8],
+    sites: Option<u64>,
+    item: &Item,
+) -> Result<Result<Vec<ReadRow>, LineFault>, OutOfMemory>
+    ensures rows { IfOk result (λ rows. value_map (λ found. map (row_at bytes.now) found.items) rows ≡ listed_on sites (item_at bytes.now item.now)) }
+    ensures sound { IfOk result (λ rows. IfOk rows (λ found. rows_fault sites (map (row_at bytes.now) found.items) ≡ None)) }
 {
-    Name {
-        span: type_word(row),
-        line: row.number,
+    let lines = item.rows.as_slice();
+    let rows = read_rows(alloc, bytes, sites, lines)?;
+    let other_count = has_other_length(sites, lines.len());
+    Ok(with_fault(fault_if(other_count, item.line.number, ROW_COUNT), rows))
+}
+
+/// The rows of sites of a lattice.
+fn listed_rows(
+    alloc: Global,
+    bytes: &[u8],
+    sites: Option<u64>,
+    block: &Block,
+) -> Result<Result<Vec<ReadRow>, LineFault>, OutOfMemory>
+    ensures rows { IfOk result (λ rows. value_map (λ found. map (row_at bytes.now) found.items) rows ≡ listed_rows sites (block_at bytes.now block.now)) }
+    ensures sound { IfOk result (λ rows. IfOk rows (λ found. rows_fault sites (map (row_at bytes.now) found.items) ≡ None)) }
+{
+    match block.item(bytes, Keyword::LatticeStructure) {
+        Some(item) => rows_on(alloc, bytes, sites, item),
+        None => Ok(Err(missing_word(block))),
+    }
+}
+
+/// The fault of the word of an explicit lattice that is used for nothing.
+fn listed_unused(bytes: &[u8], block: &Block) -> Option<LineFault>
+    ensures { result ≡ listed_unused (block_at bytes.now block.now) }
+{
+    match block.item(bytes, Keyword::MaxCoord) {
+        Some(item) => fault_of(count_on(ANY_WHOLE, bytes, item)),
+        None => None,
     }
 }
 
 /// The type words of rows of sites.
-fn types_on(alloc: Global, rows: &[Line]) -> Result<Vec<Name>, OutOfMemory>
-    ensures { IfOk result (λ names. (text : List ℕ) → map (name_at text) names.items ≡ map type_on (map (line_at text) rows.now)) }
+fn words_of(alloc: Global, rows: &[ReadRow]) -> Result<Vec<Name>, OutOfMemory>
+    ensures { IfOk result (λ names. (text : List ℕ) → map (name_at text) names.items ≡ map (λ row. on_line row.line row.type_word) (map (row_at text) rows.now)) }
 {
     let mut names = Vec::new(alloc);
     for row in rows {
-        names.push(type_on(row))?;
+        names.push(Name {
+            span: row.type_word,
+            line: row.line,
+        })?;
     }
     Ok(names)
 }
 
-/// The lattice of an explicit list of sites.
-fn explicit_graph(
+/// The explicit lattice of a block.
+fn listed_part(
     alloc: Global,
-    sizes: &Sizes,
     bytes: &[u8],
-    names: &[Vec<u8>],
-    rows: &[Line],
-) -> Result<Graph, OutOfMemory>
-    requires { IsExplicit sizes.now (map (λ name. name.items) names.now) (map (line_at bytes.now) rows.now) }
-    ensures { IfOk result (λ g. g ≡ listed_lattice (unwrap_or sizes.now.sites 0) (map (λ name. name.items) names.now) (rows_of (map (line_at bytes.now) rows.now))) }
+    block: &Block,
+) -> Result<Result<LatticePart, LineFault>, OutOfMemory>
+    ensures { IfOk result (λ part. value_map (values_at bytes.now) part ≡ listed_part (block_at bytes.now block.now)) }
 {
-    match sizes.sites {
-        Some(sites) => site_rows::graph_of(alloc, bytes, sites as u32, names, rows),
-        None => unreachable!(),
+    let sites = number_in(block, bytes, Keyword::NSites, SITE_COUNT);
+    let names = type_names(alloc, bytes, block)?;
+    let rows = listed_rows(alloc, bytes, sites.ok(), block)?;
+    let read = both(sites, both(names, rows));
+    match with_fault(listed_unused(bytes, block), read) {
+        Ok((sites, (names, rows))) => {
+            let graph = listed_graph(alloc, bytes, sites, &names, &rows)?;
+            Ok(Ok(LatticePart {
+                graph,
+                type_names: Sequence::new(names),
+                type_words: Sequence::new(words_of(alloc, &rows)?),
+            }))
+        }
+        Err(fault) => Ok(Err(fault)),
     }
 }
 
-/// The values of a file with a list of sites.
-fn explicit_part(alloc: Global, block: &Block, bytes: &[u8]) -> Result<LatticePart, OutOfMemory>
-    requires { AreFaultless BlockForm.Explicit (block_at bytes.now block.now).items }
-    ensures { IfOk result (λ part. values_at bytes.now part ≡ explicit_values (block_at bytes.now block.now).items) }
-{
-    let sizes = sizes_in(block, bytes);
-    let names = copies_of(alloc, bytes, block.list_in(bytes, Keyword::SiteTypeNames))?;
-    let rows = rows_in(block, bytes, Keyword::LatticeStructure);
-    let graph = explicit_graph(alloc, &sizes, bytes, &names, rows)?;
-    Ok(LatticePart {
-        graph,
-        type_names: Sequence::new(names),
-        type_words: Sequence::new(types_on(alloc, rows)?),
-    })
-}
-
-/// The values of a block without a fault.
-pub(crate) fn values_of(
+/// The values of a block, or the earliest of its faults.
+pub(crate) fn part_of(
     alloc: Global,
-    block: &Block,
     bytes: &[u8],
-) -> Result<LatticePart, OutOfMemory>
-    requires { AreFaultless block.now.form (block_at bytes.now block.now).items }
-    ensures { IfOk result (λ part. values_at bytes.now part ≡ values_of block.now.form (block_at bytes.now block.now).items) }
+    block: &Block,
+) -> Result<Result<LatticePart, LineFault>, OutOfMemory>
+    ensures { IfOk result (λ part. value_map (values_at bytes.now) part ≡ part_for block.now.form (block_at bytes.now block.now)) }
 {
     match block.form {
-        BlockForm::DefaultChoice => default_part(alloc, block, bytes),
-        BlockForm::PeriodicCell => cell_part(alloc, block, bytes),
-        BlockForm::Explicit => explicit_part(alloc, block, bytes),
-        _ => unreachable!(),
+        BlockForm::DefaultChoice => default_part(alloc, bytes, block),
+        BlockForm::PeriodicCell => cell_part(alloc, bytes, block),
+        BlockForm::Explicit => listed_part(alloc, bytes, block),
+        _ => Ok(Err(LineFault {
+            line: block.line,
+            kind: UNKNOWN_LATTICE,
+        })),
     }
 }

@@ -1,4 +1,4 @@
-mod EarliestFaults
+pub mod EarliestFaults
 mod FaultlessRows
 mod NumberLists
 mod Placed

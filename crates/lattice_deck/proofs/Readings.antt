@@ -1,0 +1,90 @@
+-- what a reading gives, and what holds of it
+use Rattle.std.proofs.Common.{◌≡◌, ◌∙◌, ap, refl, sym, ℕ, Option, None, Some, IfOk, IfSome, Result, Ok, Err}
+use Rattle.std.specs.List.{find}
+use Rattle.std.specs.Option.{option_map_or}
+use Rattle.std.specs.Result.{result_ok}
+use Rattle.deck_shape.specs.Blocks.{BlockLines, ItemLines, has_keyword}
+use Rattle.deck_words.specs.Faults.{at_line, both, earlier, value_map, with_fault}
+use Rattle.deck_words.specs.declared.fault.LineFault.{LineFault}
+use Rattle.deck_words.specs.declared.keyword.Keyword.{Keyword}
+use Rattle.lattice_deck.specs.Lines.{required, when_read}
+
+module _ {X : Type 0} (P : X → Type 0) where
+  pub at_line_ok : (line : ℕ) (r : Result X ℕ) → IfOk r P → IfOk (at_line line r) P
+  at_line_ok line (Ok x) holds = holds
+  at_line_ok line (Err k) holds = tt
+
+  pub required_ok : (keyword : Keyword) (block : BlockLines) (read : ItemLines → Result X LineFault) → ((item : ItemLines) → IfOk (read item) P)
+      → IfOk (required keyword block read) P
+  required_ok keyword block read holds =
+      elim (find (has_keyword keyword) block.items) as (λ found. IfOk (option_map_or read found (Err (record { line = block.end_line; kind = 8 }))) P)
+      [ None ↦ tt | Some item ↦ holds item ]
+
+  pub with_fault_ok : (fault : Option LineFault) (r : Result X LineFault) → (fault ≡ None → IfOk r P) → IfOk (with_fault fault r) P
+  with_fault_ok None r holds = holds refl
+  with_fault_ok (Some f) (Ok x) holds = tt
+  with_fault_ok (Some f) (Err g) holds = tt
+
+  pub some_ok : (r : Result X LineFault) → IfOk r P → IfSome (result_ok r) P
+  some_ok (Ok x) holds = holds
+  some_ok (Err f) holds = tt
+
+  pub is_ok : (r : Result X LineFault) (x : X) → r ≡ Ok x → IfOk r P → P x
+  is_ok (Ok y) x is holds = let e : y ≡ x = cc in rw (sym e) holds
+  is_ok (Err f) x is holds = absurd (cc)
+
+  pub is_some : (r : Result X LineFault) (x : X) → result_ok r ≡ Some x → IfOk r P → P x
+  is_some (Ok y) x is holds = let e : y ≡ x = cc in rw (sym e) holds
+  is_some (Err f) x is holds = absurd (cc)
+
+pub value_ok : {X Y : Type 0} (P : Y → Type 0) (f : X → Y) (r : Result X LineFault) → IfOk r (λ x. P (f x)) → IfOk (value_map f r) P
+value_ok P f (Ok x) holds = holds
+value_ok P f (Err g) holds = tt
+
+pub when_ok : {X Y : Type 0} (P : Y → Type 0) (Q : X → Type 0) (read : X → Result Y LineFault) (r : Result X LineFault)
+    → IfOk r Q → ((x : X) → Q x → IfOk (read x) P) → IfOk (when_read read r) P
+when_ok P Q read (Ok x) holds next = next x holds
+when_ok P Q read (Err f) holds next = tt
+
+pub both_ok : {X Y : Type 0} (P : X → Type 0) (Q : Y → Type 0) (a : Result X LineFault) (b : Result Y LineFault)
+    → IfOk a P → IfOk b Q → IfOk (both a b) (λ r. P r.0 × Q r.1)
+both_ok P Q (Ok x) (Ok y) first second = (first, second)
+both_ok P Q (Ok x) (Err g) first second = tt
+both_ok P Q (Err f) (Ok y) first second = tt
+both_ok P Q (Err f) (Err g) first second = tt
+
+-- the parts of two values that are read
+pub both_parts : {X Y : Type 0} (a : Result X LineFault) (b : Result Y LineFault) (r : X × Y) → both a b ≡ Ok r → (a ≡ Ok r.0) × (b ≡ Ok r.1)
+both_parts (Ok x) (Ok y) r is = let e : (x, y) ≡ r = cc in (ap (λ p. Ok p.0) e, ap (λ p. Ok p.1) e)
+both_parts (Ok x) (Err g) r is = absurd (cc)
+both_parts (Err f) (Ok y) r is = absurd (cc)
+both_parts (Err f) (Err g) r is = absurd (cc)
+
+pub without_fault : {X : Type 0} (fault : Option LineFault) (a : Result X LineFault) (x : X) → with_fault fault a ≡ Ok x → a ≡ Ok x
+without_fault None a x is = is
+without_fault (Some f) (Ok y) x is = absurd (cc)
+without_fault (Some f) (Err g) x is = absurd (cc)
+
+-- what functions make of values that are read together
+pub both_mapped : {A B C D : Type 0} (f : A → B) (g : C → D) (a : Result A LineFault) (b : Result C LineFault)
+    → both (value_map f a) (value_map g b) ≡ value_map (λ p. (f p.0, g p.1)) (both a b)
+both_mapped f g (Ok x) (Ok y) = refl
+both_mapped f g (Ok x) (Err e) = refl
+both_mapped f g (Err e) (Ok y) = refl
+both_mapped f g (Err d) (Err e) = refl
+
+pub with_mapped : {A B : Type 0} (f : A → B) (fault : Option LineFault) (a : Result A LineFault)
+    → with_fault fault (value_map f a) ≡ value_map f (with_fault fault a)
+with_mapped f None a = refl
+with_mapped f (Some e) (Ok x) = refl
+with_mapped f (Some e) (Err g) = refl
+
+pub value_same : {A : Type 0} (a : Result A LineFault) → a ≡ value_map (λ x. x) a
+value_same (Ok x) = refl
+value_same (Err e) = refl
+
+-- what holds of a value that is handed on
+pub handed_on : {X E F : Type 0} (P : X → Type 0) (r : Result X E) (s : Result X F) → IfOk s (λ x. r ≡ Ok x) → IfOk r P → IfOk s P
+handed_on P (Ok x) (Ok y) same holds = let e : x ≡ y = cc in rw (sym e) holds
+handed_on P (Err f) (Ok y) same holds = absurd (cc)
+handed_on P r (Err g) same holds = tt
