@@ -76,9 +76,9 @@ abbrev pub passes : Bool → FileId → Result (Unit {0}) Fault
 passes built file = if built then Ok tt else Err (not_built file)
 
 -- nothing, or a fault
-abbrev pub unless_fault : Option (ℕ × ℕ) → Result (Unit {0}) LineFault
+abbrev pub unless_fault : Option LineFault → Result (Unit {0}) LineFault
 unless_fault None = Ok tt
-unless_fault (Some fault) = Err (record { line = fault.0; kind = fault.1 })
+unless_fault (Some fault) = Err fault
 
 -- each type word of a lattice file is a type of its names
 abbrev pub types_in : LatticeValues → Result (Unit {0}) Fault

@@ -37,10 +37,10 @@ fn check_types(alloc: Global, text: &[u8], part: &LatticePart) -> Result<(), Dec
     ensures { Reads (λ _. tt) result (types_in (lattice_values_at text.now part.now)) }
 {
     match unknown_type(alloc, text, part)? {
-        Some((line, kind)) => Err(DeckFault::Fault(Fault {
+        Some(fault) => Err(DeckFault::Fault(Fault {
             file: FileId::Lattice,
-            line,
-            kind,
+            line: fault.line,
+            kind: fault.kind,
         })),
         None => Ok(()),
     }

@@ -1,6 +1,6 @@
 use deck_shape::{DeckFault, Fault, read_shape};
 use kmc_base::{FileId, MAX_FILE_BYTES, OutOfMemory, SiteId};
-use lattice_deck::{LatticePart, read, row_kinds_rise, unknown_type};
+use lattice_deck::{LatticePart, read, unknown_type};
 use std::alloc::Global;
 use std::test::Fail;
 
@@ -111,11 +111,6 @@ fn faults_of_lists_of_sites(rt: HostRuntime) -> Result<(), Fail> {
         assert_eq!(rt; fault, Some((*line, *kind)), "{text}");
     }
     Ok(())
-}
-
-#[test]
-fn kinds_of_rows() {
-    row_kinds_rise();
 }
 
 #[test]

@@ -1,52 +1,7 @@
 use crate::lattice_files::fault_of;
-use deck_shape::NumberForm;
-use lattice_cell::DefaultLattice;
-use lattice_deck::{FORMS, Form, RowCount};
 use std::alloc::Global;
 use std::process::Abort;
 use std::test::Fail;
-
-/// What each word of the lattice file takes, in the order of the table.
-const WORDS: &[(&str, Form)] = &[
-    (
-        "rectangular_periodic",
-        Form::Default(DefaultLattice::Rectangular),
-    ),
-    (
-        "hexagonal_periodic",
-        Form::Default(DefaultLattice::Hexagonal),
-    ),
-    ("cell_vectors", Form::Coordinates(RowCount::Exactly(2))),
-    ("repeat_cell", Form::Repeats),
-    (
-        "n_cell_sites",
-        Form::NumberForm(NumberForm::Whole(1, 65_536)),
-    ),
-    (
-        "n_site_types",
-        Form::NumberForm(NumberForm::Whole(1, 1_000)),
-    ),
-    ("site_type_names", Form::TypeNames),
-    ("site_types", Form::Types),
-    ("site_coordinates", Form::Coordinates(RowCount::OnePerSite)),
-    ("neighboring_structure", Form::Joins),
-    ("n_sites", Form::NumberForm(NumberForm::Whole(1, 65_536))),
-    (
-        "max_coord",
-        Form::NumberForm(NumberForm::Whole(0, 18_446_744_073_709_551_615)),
-    ),
-    ("lattice_structure", Form::SiteRows),
-];
-
-#[test]
-fn forms_of_words(rt: HostRuntime) -> Result<(), Fail> {
-    assert_eq!(rt; FORMS.len(), WORDS.len());
-    for (entry, (word, form)) in FORMS.iter().zip(WORDS) {
-        assert_eq!(rt; entry.keyword.spelling(), word.as_bytes());
-        assert_eq!(rt; entry.form, *form);
-    }
-    Ok(())
-}
 
 /// A text with one of its lines, counted from 1, replaced.
 fn with_line(alloc: Global, text: &str, number: usize, with: &str) -> Result<String, Fail> {

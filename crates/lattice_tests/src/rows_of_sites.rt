@@ -1,6 +1,7 @@
 use dec_text::split;
+use deck_words::LineFault;
 use kmc_base::{OutOfMemory, SiteId};
-use site_rows::{RowFault, TypeIndex, first_fault, graph_of, is_no_site, row_words, type_of};
+use site_rows::{TypeIndex, edge_of, graph_of, is_no_site, read_rows, row_words, type_of};
 use std::alloc::Global;
 use std::test::Fail;
 
@@ -46,52 +47,61 @@ fn numbers_of_no_site(rt: HostRuntime) {
     }
 }
 
-/// The first row with a fault of a short text.
+#[test]
+fn edges(rt: HostRuntime) {
+    assert_eq!(rt; edge_of(b"01-+2"), Some((1, 2)));
+    assert_eq!(rt; edge_of(b"1"), None);
+}
+
+/// The line and the kind of the first fault of the rows of a short text.
 fn fault_of(
     alloc: Global,
     sites: Option<u64>,
     text: &[u8],
-) -> Result<Option<(u32, RowFault)>, OutOfMemory> {
+) -> Result<Option<(u32, u8)>, OutOfMemory> {
     if text.len() > 1000 {
         return Err(OutOfMemory);
     }
-    let rows = split(alloc, text)?;
-    first_fault(alloc, text, sites, &rows)
+    let lines = split(alloc, text)?;
+    match read_rows(alloc, text, sites, &lines)? {
+        Ok(_) => Ok(None),
+        Err(LineFault { line, kind }) => Ok(Some((line, kind))),
+    }
 }
 
-/// Rows of two sites, and the first row with a fault.
-const FAULTS: &[(&[u8], Option<(u32, RowFault)>)] = &[
+/// Rows of two sites, and their first fault: its line and its kind.
+const FAULTS: &[(&[u8], Option<(u32, u8)>)] = &[
     (b"1 0.0 0.0 t 1 2\n2 1.0 0.0 t 1 1\n", None),
     (
         b"2 1.0 0.0 t 0\n\n1 0.0 0.0 t 1\n",
-        Some((3, RowFault::Form)),
+        Some((3, 17)),
     ),
-    (b"1 0.0 x t 0\n", Some((1, RowFault::Form))),
-    (b"1 0.0 1e999 t 1 3\n", Some((1, RowFault::OutOfRange))),
+    (b"1 0.0 x t 0\n", Some((1, 17))),
+    (b"1 0.0 1e999 t 1 3\n", Some((1, 13))),
     (
         b"1 0.0 0.0 t 0\n1 0.0 0.0 t 1 3\n",
-        Some((2, RowFault::Repeated)),
+        Some((2, 24)),
     ),
-    (b"1 0.0 0.0 t 2 1 3\n", Some((1, RowFault::BadSite))),
+    (b"1 0.0 0.0 t 2 1 3\n", Some((1, 25))),
     (
         b"1 0.0 0.0 t 2 1 2\n2 0.0 0.0 t 0\n",
-        Some((1, RowFault::SelfNeighbour)),
+        Some((1, 26)),
     ),
     (
         b"1 0.0 0.0 t 0\n2 0.0 0.0 t 1 1\n",
-        Some((2, RowFault::OneSided)),
+        Some((2, 28)),
     ),
     // Of two rows for a neighbour the first counts.
     (
         b"1 0.0 0.0 t 1 2\n2 0.0 0.0 t 0\n2 0.0 0.0 t 1 1\n",
-        Some((1, RowFault::OneSided)),
+        Some((1, 28)),
     ),
     // A neighbour is not one-sided where its row names what is no site, has another form, or is not there.
     (
         b"1 0.0 0.0 t 1 2\n2 0.0 0.0 t 1 3\n",
-        Some((2, RowFault::BadSite)),
+        Some((2, 25)),
     ),
-    (b"1 0.0 0.0 t 1 2\n2 0.0 x t 0\n", Some((2, RowFault::Form))),
+    (b"1 0.0 0.0 t 1 2\n2 0.0 x t 0\n", Some((2, 17))),
     (b"1 0.0 0.0 t 1 2\n", None),
 ];
 
@@ -108,7 +118,7 @@ fn too_many_neighbours(rt: HostRuntime) -> Result<(), Fail> {
     let crowded =
         b"1 0 0 t 33 2 3 4 5 6 7 8 9 10 11 12 13 14 15 16 17 18 19 20 21 22 23 24 25 26 27 28 29 30 31 32 33 34\n";
     let fault = fault_of(rt.alloc(), None, crowded)?;
-    assert_eq!(rt; fault, Some((1, RowFault::TooManyNeighbours)));
+    assert_eq!(rt; fault, Some((1, 27)));
     Ok(())
 }
 
@@ -116,12 +126,17 @@ fn too_many_neighbours(rt: HostRuntime) -> Result<(), Fail> {
 fn lattice_of_rows(rt: HostRuntime) -> Result<(), Fail> {
     let alloc = rt.alloc();
     let text = b"2 1.0 0.0 2 1 1\n1 0.0 0.0 t 2 2 2\n";
-    let rows = split(alloc, text)?;
-    assert_eq!(rt; first_fault(alloc, text, Some(2), &rows)?, None);
-    assert_eq!(rt; rows.len(), 2);
-    assert_eq!(rt; row_words(&rows[0]).len(), 6);
+    let lines = split(alloc, text)?;
+    assert_eq!(rt; lines.len(), 2);
+    assert_eq!(rt; row_words(&lines[0]).len(), 6);
+    let Ok(rows) = read_rows(alloc, text, Some(2), &lines)? else {
+        return Err(Fail);
+    };
     let names = two_names(alloc)?;
-    let graph = graph_of(alloc, text, 2, &names, &rows)?;
+    let index = TypeIndex::new(alloc, &names)?;
+    let Ok(graph) = graph_of(alloc, text, 2, &index, &rows)? else {
+        return Err(Fail);
+    };
     assert_eq!(rt; graph.len(), 2);
     assert_eq!(rt; graph.site_type(SiteId(0)), 0);
     assert_eq!(rt; graph.site_type(SiteId(1)), 2);
