@@ -1,10 +1,7 @@
 mod BelowLines
 mod Depths
 mod FileForms
-pub mod FirstFaults
 mod FirstKinds
-pub mod FormTables
-pub mod Least
 mod InnermostBlocks
 mod LineCounts
 pub mod Maps
@@ -13,9 +10,7 @@ mod OnceWords
 mod OnceInBlocks
 mod OpenBlocks
 mod PassedLines
-mod Powers
 mod ReadBlocks
-mod Repeats
 mod RisingBlocks
 pub mod RisingKinds
 mod Rows

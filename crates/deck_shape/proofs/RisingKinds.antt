@@ -5,10 +5,8 @@ use Rattle.std.specs.List.{AllByRecursion}
 use Rattle.std.specs.Option.{option_map_or}
 use Rattle.std.proofs.lemmas.Bool.{le-leb}
 use Rattle.dec_text.specs.Lines.{WordLine}
-use Rattle.deck_shape.specs.LineFaults.{first_kind, is_stray_row, is_unknown, least_kind, line_faults, rule_faults, takes_rows}
+use Rattle.deck_shape.specs.LineFaults.{fault_if, first_kind, lesser, is_stray_row, is_unknown, least_kind, line_faults, rule_faults, takes_rows}
 use Rattle.deck_shape.specs.LineWords.{is_row}
-use Rattle.deck_shape.specs.Lists.{fault_if}
-use Rattle.deck_shape.specs.Numbers.{lesser}
 use Rattle.deck_shape.specs.Reading.{SoFar, rule_at}
 use Rattle.deck_words.specs.declared.kind.TheConstants.{STRAY_ROW, UNKNOWN_WORD}
 use Rattle.deck_words.specs.declared.table.Rule.{Rule}

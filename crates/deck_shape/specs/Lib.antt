@@ -1,11 +1,8 @@
 pub mod LineWords
 pub mod Blocks
-pub mod Lists
-pub mod Forms
 pub mod Names
 pub mod WordLines
 pub mod BlockValues
-pub mod Numbers
 pub mod Reading
 pub mod LineFaults
 pub mod OpenBlocks
@@ -13,4 +10,3 @@ pub mod Shapes
 pub mod Views
 pub mod WholeBlocks
 pub mod RisingLines
-pub mod FirstFault

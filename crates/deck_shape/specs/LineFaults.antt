@@ -1,14 +1,12 @@
 -- The faults of form: which kinds hold at a line, by what has been read above it.
 use Rattle.std.specs.Prelude.{ℕ, ◌&&◌, ◌||◌, ◌+◌, Bool, true, false, not, List, [], ◌∷◌, ◌++◌, length, Option, None, Some, Result, Ok, Err}
-use Rattle.std.specs.Prelude.{if◌then◌else◌, is_none, is_some, unwrap_or}
+use Rattle.std.specs.Prelude.{if◌then◌else◌, nat_le, is_none, is_some, unwrap_or}
 use Rattle.std.specs.List.{list_all, list_any}
 use Rattle.std.specs.Option.{option_map_or}
 use Rattle.dec_text.specs.Bytes.{is_line_feed}
 use Rattle.dec_text.specs.Lines.{WordLine, runs, word_lines}
 use Rattle.deck_shape.specs.Blocks.{BlockLines, FileLines, ItemLines, has_word_of, stands}
 use Rattle.deck_shape.specs.LineWords.{arguments_of, is_row}
-use Rattle.deck_shape.specs.Lists.{fault_if}
-use Rattle.deck_shape.specs.Numbers.{lesser}
 use Rattle.deck_shape.specs.Reading.{SoFar, argument_of, block_of, closed, lattice_block, read_after, nothing_read, rule_at}
 use Rattle.deck_words.specs.Needs.{is_needed}
 use Rattle.deck_words.specs.Tables.{allows, rules_of}
@@ -114,6 +112,16 @@ variants_within (section ∷ outer ∷ others) variants = []
 -- the argument of the lattice file's first word names no lattice
 abbrev pub names_no_lattice : WordLine → Rule → Bool
 names_no_lattice line rule = begins_lattice rule.role && is_none (lattice_block (argument_of line))
+
+-- this kind of fault, where it holds
+abbrev pub fault_if : Bool → ℕ → Option ℕ
+fault_if holds kind = if holds then Some kind else None
+
+-- the lesser of two kinds of fault, where both or one hold
+abbrev pub lesser : Option ℕ → Option ℕ → Option ℕ
+lesser None b = b
+lesser (Some a) None = Some a
+lesser (Some a) (Some b) = if nat_le a b then Some a else Some b
 
 -- of some kinds, each with whether it holds, the first that holds
 abbrev pub first_kind : List (Bool × ℕ) → Option ℕ

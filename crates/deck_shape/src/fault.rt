@@ -1,5 +1,4 @@
 ghost use Rattle.std.specs.Prelude.{◌≡◌};
-ghost use Rattle.deck_shape.specs.FirstFault.{fault_or, line_fault};
 ghost use Rattle.deck_shape.specs.declared.fault.DeckFault.TheVariants.{OutOfMemory};
 
 use kmc_base::{FileId, OutOfMemory};
@@ -46,25 +45,5 @@ impl<T: Drop> From<AllocFailed<T>> for DeckFault {
 
     fn from(_error: AllocFailed<T>) -> DeckFault {
         DeckFault::OutOfMemory
-    }
-}
-
-/// The fault of a line, where it has a kind.
-pub fn line_fault(line: u32, kind: Option<u8>) -> Option<(u32, u8)>
-    ensures { result ≡ line_fault line kind }
-{
-    match kind {
-        Some(kind) => Some((line, kind)),
-        None => None,
-    }
-}
-
-/// The first of two faults.
-pub fn fault_or(fault: Option<(u32, u8)>, later: Option<(u32, u8)>) -> Option<(u32, u8)>
-    ensures { result ≡ fault_or fault later }
-{
-    match fault {
-        Some(fault) => Some(fault),
-        None => later,
     }
 }
