@@ -13,7 +13,6 @@ ghost use Rattle.lattice_core.specs.Lattice.{site_count};
 
 use crate::deck::PlainDeck;
 use crate::entries::Entries;
-use trajectory::Instance;
 use crate::listing::{AnchorList, ListedProcess};
 use fixed_math::wait;
 use kmc_base::{Entry, OutOfMemory, SiteId};
@@ -21,6 +20,7 @@ use lattice_core::{Config, Steps};
 use named_draws::Draws;
 use std::alloc::Global;
 use std::sync::ledger::{Blank, Ledger};
+use trajectory::Instance;
 
 /// What is left of rising entries once those with lesser codes are passed over.
 fn skip_below(entries: &[Entry], code: u128) -> &[Entry]

@@ -93,13 +93,16 @@ module _ {N R : Type 0} (f : N → List (List ℕ)) (g : R → List SiteRow)
       (bounds.0, bounds.1, short)
 
   pub listed_read : value_map g rows ≡ listed_rows (result_ok (sites_in NSites block)) block → unused ≡ listed_unused block
-      → with_fault (listed_unused block) (both (sites_in NSites block) (both (type_names block) (listed_rows (result_ok (sites_in NSites block)) block)))
+      → with_fault (listed_unused block) (both (sites_in NSites block) (both (type_names block) (listed_rows (result_ok (sites_in NSites block))
+      block)))
       ≡ value_map (λ v. (v.0, (f v.1.0, g v.1.1))) (with_fault unused (both sites (both names rows)))
   listed_read rows_are none =
-      let lists : both (type_names block) (listed_rows (result_ok (sites_in NSites block)) block) ≡ value_map (λ v. (f v.0, g v.1)) (both names rows) =
+      let lists : both (type_names block) (listed_rows (result_ok (sites_in NSites block)) block) ≡ value_map (λ v. (f v.0, g v.1)) (both names
+      rows) =
       ap (λ a. both a (listed_rows (result_ok (sites_in NSites block)) block)) (sym names_are)
       ∙ ap (both (value_map f names)) (sym rows_are) ∙ both_mapped f g names rows in
-      ap (λ u. with_fault u (both (sites_in NSites block) (both (type_names block) (listed_rows (result_ok (sites_in NSites block)) block)))) (sym none)
+      ap (λ u. with_fault u (both (sites_in NSites block) (both (type_names block) (listed_rows (result_ok (sites_in NSites block)) block))))
+      (sym none)
       ∙ ap (λ a. with_fault unused (both a (both (type_names block) (listed_rows (result_ok (sites_in NSites block)) block))))
       (sym sites_are ∙ value_same sites)
       ∙ ap (λ b. with_fault unused (both (value_map (λ v. v) sites) b)) lists

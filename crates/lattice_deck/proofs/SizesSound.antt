@@ -90,7 +90,12 @@ few_for (Some m) r n few is = let e : m ≡ n = cc in ltb-false MAX_SITES (r.0 *
 limit_bounds : (sites : Option ℕ) (line : ℕ) (r : ℕ × ℕ) → AreIn r → IfOk (within_limit sites line r) (AreFew sites)
 limit_bounds sites line r are =
     with_fault_ok (AreFew sites) (fault_if (gives_too_many sites r) line TOO_MANY_SITES) (Ok r)
-    (λ none. record { columns = are.0.0; rows = are.1.0; few = λ n is. few_for sites r n (not_held (gives_too_many sites r) line TOO_MANY_SITES none) is })
+    (λ none. record {
+      columns = are.0.0;
+      rows = are.1.0;
+      few = λ n is. few_for sites r n (not_held (gives_too_many sites r) line TOO_MANY_SITES
+          none) is;
+    })
 
 repeats_bounds : (sites : Option ℕ) (item : ItemLines) → IfOk (repeats_on sites item) (AreFew sites)
 repeats_bounds sites item =
@@ -120,7 +125,8 @@ pub sizes_sound : (block : BlockLines) → IsSizes (cell_sizes block)
 sizes_sound block = record {
   sites = some_ok (IsIn SITE_COUNT) (sites_in NCellSites block) (sites_bounds NCellSites block);
   repeats = some_ok AreRepeats (cell_repeats block) (repeats_are (result_ok (sites_in NCellSites block)) (cell_repeats block) (cell_bounds block));
-  few = λ sites nx ny known repeated. (is_some (AreFew (result_ok (sites_in NCellSites block))) (cell_repeats block) (nx, ny) repeated (cell_bounds block)).few sites known;
+  few = λ sites nx ny known repeated. (is_some (AreFew (result_ok (sites_in NCellSites block))) (cell_repeats block) (nx, ny) repeated
+      (cell_bounds block)).few sites known;
 }
 
 -- each factor of a product of such numbers is at most the product
@@ -159,7 +165,8 @@ line_long : (n : ℕ) (item : ItemLines) → IfOk (names_line (Some n) item) (λ
 line_long n item =
     let words = arguments_of item.line in
     value_ok (λ names. length names ≡ n) bytes_of (names_on (Some n) item.line.number words)
-    (with_fault_ok (λ (runs : List Run). length (bytes_of runs) ≡ n) (length_fault item.line.number (Some n) (length words)) (with_fault (repeat_fault item.line.number (bytes_of words)) (Ok words))
+    (with_fault_ok (λ (runs : List Run). length (bytes_of runs) ≡ n) (length_fault item.line.number (Some n) (length words)) (with_fault
+    (repeat_fault item.line.number (bytes_of words)) (Ok words))
     (λ none. with_fault_ok (λ (runs : List Run). length (bytes_of runs) ≡ n) (repeat_fault item.line.number (bytes_of words)) (Ok words)
     (λ _. length-map words (λ (word : Run). word.bytes) ∙ same_count n (length words) item.line.number LIST_LENGTH none)))
 
@@ -172,7 +179,8 @@ pub words_count : (n : ℕ) (block : BlockLines) → IfOk (type_words (Some n) b
 words_count n block =
     required_ok (λ words. length words ≡ n) SiteTypes block _
     (λ item. with_fault_ok (λ (words : List NameWord). length words ≡ n) _ (Ok (words_on item))
-    (λ none. length-map (arguments_of item.line) (on_line item.line.number) ∙ same_count n (length (arguments_of item.line)) item.line.number LIST_LENGTH none))
+    (λ none. length-map (arguments_of item.line) (on_line item.line.number) ∙ same_count n (length (arguments_of item.line)) item.line.number
+    LIST_LENGTH none))
 
 -- too few repeats are given
 pub too_few : {X : Type 0} (line : ℕ) (h : X → List ℕ) (words : List X) → length words < 2

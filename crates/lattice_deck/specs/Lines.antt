@@ -14,7 +14,11 @@ use Rattle.deck_words.specs.declared.kind.TheConstants.{MISSING_WORD}
 
 -- what a block states by a word that it must have; where the word is missing, the fault is at the closing line
 abbrev pub required : {X : Type 0} → Keyword → BlockLines → (ItemLines → Result X LineFault) → Result X LineFault
-required keyword block read = option_map_or read (find (has_keyword keyword) block.items) (Err (record { line = block.end_line; kind = MISSING_WORD }))
+required keyword block read = option_map_or read (find (has_keyword keyword) block.items) (Err (record {
+  line = block.end_line;
+  kind =
+      MISSING_WORD;
+}))
 
 -- the fault of a word that the block may have
 abbrev pub fault_in : Keyword → BlockLines → (ItemLines → Option LineFault) → Option LineFault

@@ -9,4 +9,5 @@ use Rattle.site_rows.specs.TypeWords.{type_of}
 
 -- the first type word that is no type of these names, as a fault of its line
 abbrev pub unknown_type : List (List ℕ) → List NameWord → Option LineFault
-unknown_type names words = option_map (λ word. record { line = word.line; kind = UNKNOWN_TYPE }) (find (λ word. type_of names word.word.bytes == 0) words)
+unknown_type names words = option_map (λ word. record { line = word.line; kind = UNKNOWN_TYPE }) (find (λ word. type_of names word.word.bytes ==
+    0) words)

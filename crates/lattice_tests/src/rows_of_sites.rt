@@ -72,35 +72,20 @@ fn fault_of(
 /// Rows of two sites, and their first fault: its line and its kind.
 const FAULTS: &[(&[u8], Option<(u32, u8)>)] = &[
     (b"1 0.0 0.0 t 1 2\n2 1.0 0.0 t 1 1\n", None),
-    (
-        b"2 1.0 0.0 t 0\n\n1 0.0 0.0 t 1\n",
-        Some((3, 17)),
-    ),
+    (b"2 1.0 0.0 t 0\n\n1 0.0 0.0 t 1\n", Some((3, 17))),
     (b"1 0.0 x t 0\n", Some((1, 17))),
     (b"1 0.0 1e999 t 1 3\n", Some((1, 13))),
-    (
-        b"1 0.0 0.0 t 0\n1 0.0 0.0 t 1 3\n",
-        Some((2, 24)),
-    ),
+    (b"1 0.0 0.0 t 0\n1 0.0 0.0 t 1 3\n", Some((2, 24))),
     (b"1 0.0 0.0 t 2 1 3\n", Some((1, 25))),
-    (
-        b"1 0.0 0.0 t 2 1 2\n2 0.0 0.0 t 0\n",
-        Some((1, 26)),
-    ),
-    (
-        b"1 0.0 0.0 t 0\n2 0.0 0.0 t 1 1\n",
-        Some((2, 28)),
-    ),
+    (b"1 0.0 0.0 t 2 1 2\n2 0.0 0.0 t 0\n", Some((1, 26))),
+    (b"1 0.0 0.0 t 0\n2 0.0 0.0 t 1 1\n", Some((2, 28))),
     // Of two rows for a neighbour the first counts.
     (
         b"1 0.0 0.0 t 1 2\n2 0.0 0.0 t 0\n2 0.0 0.0 t 1 1\n",
         Some((1, 28)),
     ),
     // A neighbour is not one-sided where its row names what is no site, has another form, or is not there.
-    (
-        b"1 0.0 0.0 t 1 2\n2 0.0 0.0 t 1 3\n",
-        Some((2, 25)),
-    ),
+    (b"1 0.0 0.0 t 1 2\n2 0.0 0.0 t 1 3\n", Some((2, 25))),
     (b"1 0.0 0.0 t 1 2\n2 0.0 x t 0\n", Some((2, 17))),
     (b"1 0.0 0.0 t 1 2\n", None),
 ];

@@ -50,7 +50,7 @@ types_placed names rows row old new none some low is are =
     let long : length new ≡ length old = ap length is ∙ length-set old (row.site - 1) (type_of names row.type_word.bytes) in
     is
     ∙ placed (type_at names rows) (type_at names (rows ++ row ∷ [])) (length old) (row.site - 1) (type_of names row.type_word.bytes) old (omega
-        arith) are
+    arith) are
     (ap (λ s. option_map_or (λ r. type_of names r.type_word.bytes) (row_for s (rows ++ row ∷ [])) 0) here
     ∙ ap (λ found. option_map_or (λ r. type_of names r.type_word.bytes) found 0) (found_here rows row none))
     (λ k ne. ap (λ found. option_map_or (λ r. type_of names r.type_word.bytes) found 0) (other_row rows row k some ne))

@@ -5,8 +5,17 @@ ghost use Rattle.dec_text.specs.Spans.{bytes_at, line_at, run_at};
 ghost use Rattle.deck_words.specs.Faults.{value_map};
 ghost use Rattle.site_rows.specs.ReadRows.{row_at};
 ghost use Rattle.site_rows.specs.Readings.{least_fault};
-ghost use Rattle.site_rows.specs.SiteRows.{all_whole, is_either_out_of_range, is_out_of_range, neighbours_of, or_form_fault, row_made, row_of,
-    rows_of, site_row};
+ghost use Rattle.site_rows.specs.SiteRows.{
+  all_whole,
+  is_either_out_of_range,
+  is_out_of_range,
+  neighbours_of,
+  or_form_fault,
+  row_made,
+  row_of,
+  rows_of,
+  site_row,
+};
 
 use crate::readings::{Readings, with_reading};
 use dec_text::{DecimalFault, Line, Span, read_decimal, read_whole};

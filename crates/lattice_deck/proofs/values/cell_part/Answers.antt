@@ -40,7 +40,8 @@ cell_values-requires c =
     let g = λ (w : Vec Name Global). map (name_at text) w.items in
     let h = λ (j : Vec JoinRow Global). j.items in
     let sites_are = c.number_in-sites.ensures in
-    let repeats_are = c.cell_repeats-repeats.ensures ∙ ap (λ s. required RepeatCell block (repeats_on s)) (c.ok.ensures.value ∙ ap result_ok sites_are) in
+    let repeats_are = c.cell_repeats-repeats.ensures ∙ ap (λ s. required RepeatCell block (repeats_on s)) (c.ok.ensures.value ∙ ap result_ok
+    sites_are) in
     let words_are = c.in_ok-words.ensures ∙ ap (λ s. type_words s block) (c.ok-4.ensures.value ∙ ap result_ok sites_are) in
     let sites : c.ok-2.result ≡ (cell_sizes block).sites = c.ok-2.ensures.value ∙ ap result_ok sites_are in
     let repeats : c.ok-3.result ≡ (cell_sizes block).repeats = c.ok-3.ensures.value ∙ ap result_ok repeats_are in
@@ -52,8 +53,10 @@ cell_values-requires c =
     c.in-Ok.cell.1.0 c.in-Ok.cell.1.1.0 c.in-Ok.cell.1.1.1 (chain ∙ c.in-Ok.is) in
     let are = facts.0 in
     let many : length (g c.in-Ok.cell.1.1.0) ≡ length c.in-Ok.cell.1.1.0.items = length-map c.in-Ok.cell.1.1.0.items (name_at text) in
-    let named : length (f c.in-Ok.cell.1.0) ≡ length c.in-Ok.cell.1.0.items = length-map c.in-Ok.cell.1.0.items (λ (name : Vec ℕ Global). name.items) in
-    let ends = is_ok (λ (rows : Vec JoinRow Global). AreEnds c.ok-2.result rows.items) c.in_ok-joins.joins c.in-Ok.cell.1.1.1 facts.2 c.in_ok-joins.ensures.ends in
+    let named : length (f c.in-Ok.cell.1.0) ≡ length c.in-Ok.cell.1.0.items = length-map c.in-Ok.cell.1.0.items (λ (name : Vec ℕ Global).
+    name.items) in
+    let ends = is_ok (λ (rows : Vec JoinRow Global). AreEnds c.ok-2.result rows.items) c.in_ok-joins.joins c.in-Ok.cell.1.1.1 facts.2
+    c.in_ok-joins.ensures.ends in
     let known : c.ok-2.result ≡ Some (length c.in-Ok.cell.1.1.0.items) =
     c.ok-2.ensures.value ∙ ap result_ok facts.1 ∙ ap (λ n. Some n) (sym (sym many ∙ are.count)) in
     record {
@@ -72,7 +75,8 @@ returns-in_ok-cell_values-in-Ok c =
     let g = λ (w : Vec Name Global). map (name_at text) w.items in
     let h = λ (j : Vec JoinRow Global). j.items in
     let sites_are = c.number_in-sites.ensures in
-    let repeats_are = c.cell_repeats-repeats.ensures ∙ ap (λ s. required RepeatCell block (repeats_on s)) (c.ok.ensures.value ∙ ap result_ok sites_are) in
+    let repeats_are = c.cell_repeats-repeats.ensures ∙ ap (λ s. required RepeatCell block (repeats_on s)) (c.ok.ensures.value ∙ ap result_ok
+    sites_are) in
     let words_are = c.in_ok-words.ensures ∙ ap (λ s. type_words s block) (c.ok-4.ensures.value ∙ ap result_ok sites_are) in
     let sites : c.ok-2.result ≡ (cell_sizes block).sites = c.ok-2.ensures.value ∙ ap result_ok sites_are in
     let repeats : c.ok-3.result ≡ (cell_sizes block).repeats = c.ok-3.ensures.value ∙ ap result_ok repeats_are in
@@ -97,7 +101,8 @@ returns-in-Err c =
     let g = λ (w : Vec Name Global). map (name_at text) w.items in
     let h = λ (j : Vec JoinRow Global). j.items in
     let sites_are = c.number_in-sites.ensures in
-    let repeats_are = c.cell_repeats-repeats.ensures ∙ ap (λ s. required RepeatCell block (repeats_on s)) (c.ok.ensures.value ∙ ap result_ok sites_are) in
+    let repeats_are = c.cell_repeats-repeats.ensures ∙ ap (λ s. required RepeatCell block (repeats_on s)) (c.ok.ensures.value ∙ ap result_ok
+    sites_are) in
     let words_are = c.in_ok-words.ensures ∙ ap (λ s. type_words s block) (c.ok-4.ensures.value ∙ ap result_ok sites_are) in
     let sites : c.ok-2.result ≡ (cell_sizes block).sites = c.ok-2.ensures.value ∙ ap result_ok sites_are in
     let repeats : c.ok-3.result ≡ (cell_sizes block).repeats = c.ok-3.ensures.value ∙ ap result_ok repeats_are in

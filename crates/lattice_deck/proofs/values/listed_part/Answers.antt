@@ -78,7 +78,8 @@ returns-in_ok-words_of-in-Ok c =
     let rows = g c.in-Ok.rows in
     let words = map (λ row. on_line row.line row.type_word) rows in
     let result : LatticeValues → Result LatticeValues LineFault = λ v. Ok v in
-    ap (λ ns. result (record { lattice = graph; type_names = map (λ name. name.items) ns; type_words = map (name_at text) c.new-in-Ok.result })) names_kept
+    ap (λ ns. result (record { lattice = graph; type_names = map (λ name. name.items) ns; type_words = map (name_at text) c.new-in-Ok.result }))
+    names_kept
     ∙ ap (λ ws. result (record { lattice = graph; type_names = names; type_words = map (name_at text) ws })) words_kept
     ∙ ap (λ ws. result (record { lattice = graph; type_names = names; type_words = ws }))
     (c.in_ok-words_of-in-Ok.ensures text ∙ ap (λ rs. map (λ row. on_line row.line row.type_word) (map (row_at text) rs)) rows_kept)
@@ -88,5 +89,6 @@ returns-in_ok-words_of-in-Ok c =
       type_names = names;
       type_words = words;
     })) names_now
-    ∙ ap (λ rs. result (record { lattice = listed_lattice c.in-Ok.sites names (map (row_at text) rs); type_names = names; type_words = words })) rows_now
+    ∙ ap (λ rs. result (record { lattice = listed_lattice c.in-Ok.sites names (map (row_at text) rs); type_names = names; type_words = words }))
+    rows_now
     ∙ sym (ap (value_map listed_values) (all ∙ ap (value_map (λ v. (v.0, (f v.1.0, g v.1.1)))) (chain ∙ c.in-Ok.is)))

@@ -27,7 +27,7 @@ loop-row-preserved c =
           let rest = map f (drop (i + 1) rows) in
           let here = c.in_ok-row_fault.ensures text above all (c.in_ok-index.ensures text)
           (first-from_added above row.site c.in_ok-is_first.is_first c.loop-row.above c.in_ok-is_first.ensures.added (c.loop-row.invariant.above
-              text)) in
+          text)) in
           ap (λ rs. earliest c.earliest-fault.result (fault_below sites all rs rest)) (taken_more f rows i row c.loop-row-test.true c.row-item.is)
           ∙ ap (λ fault. earliest fault (fault_below sites all (above ++ f row ∷ []) rest)) c.earliest-fault.ensures
           ∙ earliest_groups c.loop-row.fault c.in_ok-row_fault.field-0 (fault_below sites all (above ++ f row ∷ []) rest)

@@ -19,8 +19,11 @@ returns c =
     let line = c.args.line in
     let none : Span = record { start = 0; end = 0 } in
     let others = map (bytes_at text) (drop 5 words) in
-    let whole : take (length words - 5) (drop 5 words) ≡ drop 5 words = take_all (length words - 5) (drop 5 words) (omega (arith, length-drop 5
-        words)) in
+    let whole : take (length words - 5) (drop 5 words) ≡ drop 5 words = take_all (length words - 5) (drop 5 words) (omega (
+      arith,
+      length-drop 5
+          words,
+    )) in
     let site : c.ok-site.result ≡ result_ok (whole_number (bytes_at text (get_or words 0 none))) =
     c.ok-site.ensures.value ∙ ap result_ok (c.read_whole-2.ensures ∙ ap whole_number c.bytes-4.ensures) in
     let past : c.is_either_out_of_range-past.result

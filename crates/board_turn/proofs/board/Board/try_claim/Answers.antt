@@ -58,7 +58,7 @@ returns-clause-won g c = λ _.
     let t = won c.args.pass.now.seat.me c.fetch_or-found.new.seat.me _ _ c.args.piece c.piece_bit-bit.ensures.is e.0 e.1 in
     let pass = c.args.pass.now in
     let unset = unset_at pass.seat.me.0.seen c.piece_bit-bit.result c.args.piece c.piece_bit-bit.ensures.is
-        (ap (λ n. bit_and n c.piece_bit-bit.result) (sym pass.has_found) ∙ c.if-pass-bit-ne0.false) in
+    (ap (λ n. bit_and n c.piece_bit-bit.result) (sym pass.has_found) ∙ c.if-pass-bit-ne0.false) in
     record { fresh = t.fresh; unfound = unset; added = t.added; has = t.has }
 
 pub returns-clause-found : goal.returns-clause-found
