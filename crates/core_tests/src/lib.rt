@@ -17,6 +17,8 @@ mod rates_and_waits;
 #[cfg(test)]
 mod runs_of_the_core;
 #[cfg(test)]
+mod sides_of_steps;
+#[cfg(test)]
 mod small_decks;
 #[cfg(test)]
 mod small_lattices;
