@@ -1,5 +1,5 @@
 -- the values of a cell and of an explicit lattice, read together
-use Rattle.std.proofs.Common.{◌≡◌, ◌∙◌, ap, arith, sym, subst, ℕ, ◌*◌, ◌≤◌, List, Option, None, Some, Result, Ok, length, refl}
+use Rattle.std.proofs.Common.{◌≡◌, ◌∙◌, ap, arith, sym, subst, ℕ, ◌*◌, ◌≤◌, List, Option, Some, Result, Ok, length}
 use Rattle.std.specs.Result.{result_ok}
 use Rattle.kmc_base.specs.declared.limits.TheConstants.{MAX_SITES}
 use Rattle.deck_shape.specs.Blocks.{BlockLines}
@@ -7,7 +7,6 @@ use Rattle.deck_shape.specs.Names.{NameWord}
 use Rattle.deck_words.specs.Faults.{both, value_map, with_fault}
 use Rattle.deck_words.specs.declared.fault.LineFault.{LineFault}
 use Rattle.deck_words.specs.declared.keyword.Keyword.TheVariants.{NCellSites, NSites}
-use Rattle.lattice_deck.specs.Joins.{joins_on}
 use Rattle.lattice_deck.specs.Parts.{cell_joins, cell_repeats, cell_unused, listed_rows, listed_unused, sites_in, type_names, type_words}
 use Rattle.lattice_deck.specs.Sizes.{AreRepeats}
 use Rattle.lattice_deck.specs.declared.joins.JoinRow.{JoinRow}

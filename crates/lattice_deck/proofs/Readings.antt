@@ -1,10 +1,10 @@
 -- what a reading gives, and what holds of it
-use Rattle.std.proofs.Common.{◌≡◌, ◌∙◌, ap, refl, sym, ℕ, Option, None, Some, IfOk, IfSome, Result, Ok, Err}
+use Rattle.std.proofs.Common.{◌≡◌, ap, refl, sym, ℕ, Option, None, Some, IfOk, IfSome, Result, Ok, Err}
 use Rattle.std.specs.List.{find}
 use Rattle.std.specs.Option.{option_map_or}
 use Rattle.std.specs.Result.{result_ok}
 use Rattle.deck_shape.specs.Blocks.{BlockLines, ItemLines, has_keyword}
-use Rattle.deck_words.specs.Faults.{at_line, both, earlier, value_map, with_fault}
+use Rattle.deck_words.specs.Faults.{at_line, both, value_map, with_fault}
 use Rattle.deck_words.specs.declared.fault.LineFault.{LineFault}
 use Rattle.deck_words.specs.declared.keyword.Keyword.{Keyword}
 use Rattle.lattice_deck.specs.Lines.{required, when_read}

@@ -1,5 +1,5 @@
 -- what is true of the numbers that a file states
-use Rattle.std.proofs.Common.{◌≡◌, ◌∙◌, ap, arith, refl, sym, ℕ, ◌*◌, ◌≤◌, ◌<◌, Bool, true, false, List, [], ◌∷◌, Option, None, Some, IfOk, IfSome}
+use Rattle.std.proofs.Common.{◌≡◌, ◌∙◌, ap, arith, refl, sym, ℕ, ◌*◌, ◌≤◌, ◌<◌, Bool, true, false, List, [], ◌∷◌, Option, None, Some, IfOk}
 use Rattle.std.proofs.Common.{Result, Ok, Err, if◌then◌else◌, length, map, nat_le, nat_lt, not, eqb}
 use Rattle.std.specs.Result.{result_ok}
 use Rattle.std.proofs.Math.Nat.{mul-le-mul_left, mul-le-mul_right}
@@ -18,14 +18,14 @@ use Rattle.deck_values.specs.Names.{bytes_of, names_on, repeat_fault}
 use Rattle.deck_values.specs.Numbers.{any_decimal, is_whole_in, whole_in, whole_within}
 use Rattle.deck_values.specs.Words.{one}
 use Rattle.deck_values.specs.declared.number.WholeRange.{WholeRange}
-use Rattle.deck_words.specs.Faults.{at_line, both, value_map, with_fault}
+use Rattle.deck_words.specs.Faults.{at_line, with_fault}
 use Rattle.deck_words.specs.declared.fault.LineFault.{LineFault}
 use Rattle.deck_words.specs.declared.keyword.Keyword.{Keyword}
 use Rattle.deck_words.specs.declared.keyword.Keyword.TheVariants.{NCellSites, NSiteTypes, RepeatCell, SiteTypeNames, SiteTypes}
 use Rattle.deck_words.specs.declared.kind.TheConstants.{ARGUMENT_COUNT, LIST_LENGTH, OUT_OF_RANGE, TOO_MANY_SITES}
 use Rattle.lattice_deck.specs.Lines.{count_on, required}
 use Rattle.lattice_deck.specs.Parts.{cell_repeats, cell_sizes, names_line, sites_in, type_names, type_words, types_in}
-use Rattle.lattice_deck.specs.Sizes.{AreRepeats, IsSizes, default_on, default_repeats, gives_too_many, is_narrow, repeats_on, two_repeats}
+use Rattle.lattice_deck.specs.Sizes.{AreRepeats, IsSizes, default_on, default_repeats, gives_too_many, repeats_on, two_repeats}
 use Rattle.lattice_deck.specs.Sizes.{wide_enough, within_limit}
 use Rattle.lattice_deck.specs.declared.ranges.TheConstants.{REPEAT, SITE_COUNT, TYPE_COUNT}
 use Rattle.lattice_deck.specs.declared.sizes.Sizes.{Sizes}

@@ -2,8 +2,6 @@ use Rattle.std.proofs.Common.{◌≡◌, ◌++◌, All, drop, map}
 use Rattle.lattice_cell.specs.Cells.{IsInCell}
 use Rattle.lattice_deck.specs.Ends.{AreEnds}
 use Rattle.lattice_deck.specs.Joins.{join_from}
-use Rattle.site_rows.specs.Readings.{least}
-use Rattle.lattice_deck.specs.declared.joins.JoinRow.{JoinRow}
 use Rattle.std.proofs.Common.{Some}
 use Rattle.lattice_deck.proofs.joins.joins_from.Given as goal
 

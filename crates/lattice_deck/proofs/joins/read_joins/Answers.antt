@@ -1,5 +1,4 @@
 use Rattle.std.proofs.Common.{◌≡◌, ◌∙◌, ◌+◌, ◌++◌, [], ◌∷◌, List, IfOk, Ok, Err, Result, Option, ℕ, ap, append_assoc, drop, map, subst, sym}
-use Rattle.std.specs.List.{AllByRecursion}
 use Rattle.std.proofs.lemmas.List.{append-nil}
 use Rattle.dec_text.specs.Spans.{line_at}
 use Rattle.deck_words.specs.declared.fault.LineFault.{LineFault}
