@@ -9,6 +9,8 @@ mod board_passes;
 #[cfg(test)]
 mod draws_by_name;
 #[cfg(test)]
+mod energies;
+#[cfg(test)]
 mod instance_codes;
 #[cfg(test)]
 mod pattern_listings;
@@ -18,6 +20,8 @@ mod rates_and_waits;
 mod runs_of_the_core;
 #[cfg(test)]
 mod sides_of_steps;
+#[cfg(test)]
+mod small_chemistries;
 #[cfg(test)]
 mod small_decks;
 #[cfg(test)]

@@ -103,7 +103,7 @@ fn wants(wanted: &[Wanted], entity: u8, species: SpeciesId, dentate: u8) -> bool
 }
 
 /// Whether some vertex wants each dentate of an entity, of so many.
-fn wants_each(wanted: &[Wanted], entity: u8, species: SpeciesId, dentates: u8) -> bool
+pub(crate) fn wants_each(wanted: &[Wanted], entity: u8, species: SpeciesId, dentates: u8) -> bool
     ensures { IsTrue result → (d : ℕ) → 1 ≤ d → d ≤ dentates → Contains wanted.now (Wanted.Holds entity species d) }
 {
     for place in 0..dentates {
