@@ -10,7 +10,7 @@ mod name;
 mod number;
 mod words;
 
-pub use list::{absent_list, list_on};
+pub use list::{absent_list, fault_if, has_other_length, list_on};
 pub use name::{names_on, species_on};
 pub use number::{
     Amount, AnyDecimal, ScaledRange, UpTo, WholeRange, amount_in, any_decimal, is_up_to, scaled_in,

@@ -11,7 +11,7 @@ use kmc_base::OutOfMemory;
 use std::alloc::Global;
 
 /// A fault on a line, where it holds.
-pub(crate) fn fault_if(holds: bool, line: u32, kind: u8) -> Option<LineFault>
+pub fn fault_if(holds: bool, line: u32, kind: u8) -> Option<LineFault>
     ensures { result ≡ fault_if holds line kind }
 {
     if holds {
@@ -22,7 +22,7 @@ pub(crate) fn fault_if(holds: bool, line: u32, kind: u8) -> Option<LineFault>
 }
 
 /// A list has another length than is stated; `None` means that the stated number has a fault itself.
-pub(crate) fn has_other_length(count: Option<u64>, members: usize) -> bool
+pub fn has_other_length(count: Option<u64>, members: usize) -> bool
     ensures { result ≡ has_other_length count members }
 {
     match count {

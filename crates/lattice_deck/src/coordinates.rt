@@ -7,11 +7,11 @@ ghost use Rattle.site_rows.specs.Readings.{least};
 
 use crate::lines::fault_of;
 use dec_text::{Decimal, Line, Span};
-use deck_shape::{Block, Item, Keyword, has_other_length};
-use deck_values::any_decimal;
+use deck_shape::{Block, Item, Keyword};
+use deck_values::{any_decimal, fault_if, has_other_length};
 use deck_words::kind::{NOT_NUMBER, ROW_COUNT, ROW_FORM};
 use deck_words::{LineFault, at_line, both};
-use site_rows::{earliest, fault_if, row_words};
+use site_rows::{earliest, row_words};
 
 /// The two decimals of a row.
 fn two_decimals(line: u32, bytes: &[u8], words: &[Span]) -> Result<(Decimal, Decimal), LineFault>

@@ -14,13 +14,12 @@ use crate::lines::missing_word;
 use crate::sizes::Sizes;
 use dec_text::{Line, Span};
 use deck_shape::{Block, Item, Keyword};
+use deck_values::fault_if;
 use deck_words::kind::{BAD_EDGE, SELF_NEIGHBOUR, TOO_MANY_NEIGHBOURS};
 use deck_words::{LineFault, with_fault};
 use kmc_base::OutOfMemory;
 use lattice_cell::{Join, Toward, is_crowded};
-use site_rows::{
-    Readings, earliest, edge_of, fault_if, is_no_site, or_form_fault, row_words, with_reading,
-};
+use site_rows::{Readings, earliest, edge_of, is_no_site, or_form_fault, row_words, with_reading};
 use std::alloc::Global;
 
 /// A row of `neighboring_structure`: the two sites of the cell, from 1, and the cell of the second.

@@ -9,12 +9,11 @@ ghost use Rattle.lattice_deck.specs.Parts.{names_line, type_names, type_words};
 use crate::lines::{fault_of, missing_word, number_in};
 use crate::ranges::TYPE_COUNT;
 use dec_text::Span;
-use deck_shape::{Block, Item, Keyword, Name, has_other_length};
-use deck_values::names_on;
+use deck_shape::{Block, Item, Keyword, Name};
+use deck_values::{fault_if, has_other_length, names_on};
 use deck_words::kind::LIST_LENGTH;
 use deck_words::{LineFault, with_fault};
 use kmc_base::OutOfMemory;
-use site_rows::fault_if;
 use std::alloc::Global;
 
 /// The bytes of words.

@@ -8,11 +8,10 @@ use crate::lines::{fault_of, missing_word};
 use crate::ranges::REPEAT;
 use dec_text::Span;
 use deck_shape::{Block, Item, Keyword};
-use deck_values::{any_decimal, whole_in};
+use deck_values::{any_decimal, fault_if, whole_in};
 use deck_words::kind::{ARGUMENT_COUNT, SELF_NEIGHBOUR, TOO_MANY_SITES};
 use deck_words::{LineFault, at_line, both, with_fault};
 use kmc_base::MAX_SITES;
-use site_rows::fault_if;
 
 /// The numbers of a periodic cell that other lines depend on; `None` where the line that states one has a fault.
 #[derive(Clone, Copy, Debug)]

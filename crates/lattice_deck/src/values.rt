@@ -20,12 +20,13 @@ use crate::names::{type_names, type_words};
 use crate::part::LatticePart;
 use crate::ranges::{ANY_WHOLE, SITE_COUNT};
 use crate::sizes::{Sizes, cell_repeats, default_on};
-use deck_shape::{Block, BlockForm, Item, Keyword, Name, has_other_length};
+use deck_shape::{Block, BlockForm, Item, Keyword, Name};
+use deck_values::{fault_if, has_other_length};
 use deck_words::kind::{ROW_COUNT, UNKNOWN_LATTICE};
 use deck_words::{LineFault, both, with_fault};
 use kmc_base::{OutOfMemory, Sequence};
 use lattice_cell::DefaultLattice;
-use site_rows::{ReadRow, earliest, fault_if, read_rows};
+use site_rows::{ReadRow, earliest, read_rows};
 use std::alloc::Global;
 
 /// The values of a default lattice, whose one type has the name StTp1.

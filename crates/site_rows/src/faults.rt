@@ -10,9 +10,10 @@ ghost use Rattle.site_rows.specs.RowLookup.{IsIndexOf};
 ghost use Rattle.site_rows.specs.SiteRows.{SiteRow, row_for};
 
 use crate::index::{RowNeighbours, has_bad_site, index_rows, sort_and_dedup};
-use crate::readings::{earliest, fault_if};
+use crate::readings::earliest;
 use crate::row::{ReadRow, read_forms};
 use dec_text::Line;
+use deck_values::fault_if;
 use deck_words::kind::{
     BAD_SITE, ONE_SIDED, OUT_OF_RANGE, REPEATED_SITE, SELF_NEIGHBOUR, TOO_MANY_NEIGHBOURS,
 };

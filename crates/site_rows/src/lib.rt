@@ -22,7 +22,7 @@ mod words;
 pub use edge::edge_of;
 pub use faults::read_rows;
 pub use listed::graph_of;
-pub use readings::{Readings, earliest, fault_if, with_reading};
+pub use readings::{Readings, earliest, with_reading};
 pub use row::{ReadRow, or_form_fault};
 pub use type_index::TypeIndex;
 pub use type_word::{MAX_SITE_TYPES, type_of};

@@ -1,5 +1,4 @@
 ghost use Rattle.std.specs.Prelude.{◌≡◌, ◌++◌, [], IfOk};
-ghost use Rattle.deck_values.specs.Lists.{fault_if};
 ghost use Rattle.site_rows.specs.Readings.{earliest, fault_of, with_value};
 
 use deck_words::{LineFault, earlier};
@@ -12,17 +11,6 @@ pub struct Readings<T> {
     pub values: Vec<T>,
     /// The earliest fault.
     pub fault: Option<LineFault>,
-}
-
-/// A fault on a line, where it holds.
-pub fn fault_if(holds: bool, line: u32, kind: u8) -> Option<LineFault>
-    ensures { result ≡ fault_if holds line kind }
-{
-    if holds {
-        Some(LineFault { line, kind })
-    } else {
-        None
-    }
 }
 
 /// The earlier of two faults, where there are any.
