@@ -129,6 +129,7 @@ type Reading = (u32, usize, usize, [u16; 2], Option<(u32, u8)>);
 fn reading(alloc: Global, text: &[u8]) -> Result<Reading, Fail> {
     let part = read_text(alloc, text)?;
     let unknown = unknown_type(alloc, text, &part)?;
+    let unknown = unknown.map(|fault| (fault.line, fault.kind));
     let graph = &part.graph;
     if graph.len() < 2 {
         return Err("too few sites")?;

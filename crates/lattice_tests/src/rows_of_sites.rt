@@ -115,12 +115,12 @@ fn lattice_of_rows(rt: HostRuntime) -> Result<(), Fail> {
     assert_eq!(rt; lines.len(), 2);
     assert_eq!(rt; row_words(&lines[0]).len(), 6);
     let Ok(rows) = read_rows(alloc, text, Some(2), &lines)? else {
-        return Err(Fail);
+        return Err("a fault")?;
     };
     let names = two_names(alloc)?;
     let index = TypeIndex::new(alloc, &names)?;
     let Ok(graph) = graph_of(alloc, text, 2, &index, &rows)? else {
-        return Err(Fail);
+        return Err("a fault")?;
     };
     assert_eq!(rt; graph.len(), 2);
     assert_eq!(rt; graph.site_type(SiteId(0)), 0);
