@@ -8,6 +8,7 @@ use Rattle.deck_words.specs.declared.table.BlockForm.TheVariants.{Simulation, La
 use Rattle.deck_words.specs.declared.table.BlockForm.TheVariants.{NeighboringStructure, LatticeStructure}
 use Rattle.deck_words.specs.declared.table.BlockForm.TheVariants.{EnergeticsFile, Energetics, Cluster, ClusterVariant}
 use Rattle.deck_words.specs.declared.table.BlockForm.TheVariants.{MechanismFile, Mechanism, Step, ReversibleStep, StepVariant}
+use Rattle.deck_words.specs.declared.table.BlockForm.TheVariants.{StateFile, InitialState}
 use Rattle.deck_words.specs.declared.table.Role.{Role}
 use Rattle.deck_words.specs.declared.table.Role.TheVariants.{Encloses, Opens, Closes}
 
@@ -54,3 +55,5 @@ all_roles Mechanism = search rules depth 60
 all_roles Step = search rules depth 60
 all_roles ReversibleStep = search rules depth 60
 all_roles StepVariant = search rules depth 60
+all_roles StateFile = search rules depth 60
+all_roles InitialState = search rules depth 60

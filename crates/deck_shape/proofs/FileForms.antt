@@ -19,6 +19,7 @@ use Rattle.deck_words.specs.declared.table.BlockForm.{BlockForm}
 use Rattle.deck_words.specs.declared.table.BlockForm.TheVariants.{Simulation, LatticeFile, DefaultChoice, PeriodicCell, Explicit}
 use Rattle.deck_words.specs.declared.table.BlockForm.TheVariants.{EnergeticsFile, Energetics, Cluster, ClusterVariant}
 use Rattle.deck_words.specs.declared.table.BlockForm.TheVariants.{MechanismFile, Mechanism, Step, ReversibleStep, StepVariant}
+use Rattle.deck_words.specs.declared.table.BlockForm.TheVariants.{StateFile, InitialState}
 use Rattle.deck_words.specs.declared.table.Role.{Role}
 use Rattle.deck_words.specs.declared.table.Role.TheVariants.{Value, Rows as HasRows, Encloses, Opens, Begins, BeginsLattice}
 use Rattle.deck_words.specs.declared.table.Role.TheVariants.{Closes, Unsupported}
@@ -43,6 +44,8 @@ IsWithin MechanismText Mechanism = Unit {0}
 IsWithin MechanismText Step = Unit {0}
 IsWithin MechanismText ReversibleStep = Unit {0}
 IsWithin MechanismText StepVariant = Unit {0}
+IsWithin StateText StateFile = Unit {0}
+IsWithin StateText InitialState = Unit {0}
 IsWithin file form = ⊥
 
 -- the outermost of them
@@ -55,7 +58,7 @@ IsTop EnergeticsText form = ⊥
 IsTop MechanismText MechanismFile = Unit {0}
 IsTop MechanismText Mechanism = Unit {0}
 IsTop MechanismText form = ⊥
-IsTop StateText form = ⊥
+IsTop StateText form = IsWithin StateText form
 
 -- a word of a file opens blocks of that file
 abbrev pub StaysWithin : FileId → Role → Type 0
@@ -79,6 +82,8 @@ all_stay MechanismText Mechanism is = search rules depth 60
 all_stay MechanismText Step is = search rules depth 60
 all_stay MechanismText ReversibleStep is = search rules depth 60
 all_stay MechanismText StepVariant is = search rules depth 60
+all_stay StateText StateFile is = search rules depth 60
+all_stay StateText InitialState is = search rules depth 60
 all_stay file form is = absurd is
 
 -- what is read so far of a file, by its outermost block and the open ones
@@ -173,6 +178,8 @@ closing_form EnergeticsText EnergeticsFile word rule is found closing = absurd (
 closing_form EnergeticsText Energetics word rule is found closing = refl
 closing_form MechanismText MechanismFile word rule is found closing = absurd (no_closing MechanismFile word rule (refl, tt) found closing)
 closing_form MechanismText Mechanism word rule is found closing = refl
+closing_form StateText StateFile word rule is found closing = absurd (no_closing StateFile word rule (refl, tt) found closing)
+closing_form StateText InitialState word rule is found closing = refl
 closing_form file form word rule is found closing = absurd is
 
 file_closed : (file : FileId) (so_far : SoFar) (line : WordLine) (rule : Rule) → IsOfFile file so_far → ClosesFile so_far line rule
@@ -182,31 +189,17 @@ file_closed file so_far line rule is closes =
     (subst (λ around. IsTop file (file_form so_far.block.form around)) closes.alone is.top)
     (rule_in so_far line rule so_far.block.form (outermost so_far.below so_far.block.form closes.outside) closes.has_rule) closes.closing
 
-same_form : (a b : BlockForm) → Some a ≡ Some b → a ≡ b
-same_form a b is = cc
-
-begins : (file : FileId) (form : BlockForm) → first_block file ≡ Some form → IsOfFile file (nothing_read form)
-begins SimulationText form is = subst (λ f. IsOfFile SimulationText (nothing_read f)) (same_form Simulation form is) (record {
-  top = tt;
-  inner =
-      tt;
-  around = tt;
-})
-begins LatticeText form is = subst (λ f. IsOfFile LatticeText (nothing_read f)) (same_form LatticeFile form is) (record {
-  top = tt;
-  inner = tt;
-  around = tt;
-})
-begins EnergeticsText form is =
-    subst (λ f. IsOfFile EnergeticsText (nothing_read f)) (same_form EnergeticsFile form is) (record { top = tt; inner = tt; around = tt })
-begins MechanismText form is =
-    subst (λ f. IsOfFile MechanismText (nothing_read f)) (same_form MechanismFile form is) (record { top = tt; inner = tt; around = tt })
-begins StateText form is = cc
+begins : (file : FileId) → IsOfFile file (nothing_read (first_block file))
+begins SimulationText = record { top = tt; inner = tt; around = tt }
+begins LatticeText = record { top = tt; inner = tt; around = tt }
+begins EnergeticsText = record { top = tt; inner = tt; around = tt }
+begins MechanismText = record { top = tt; inner = tt; around = tt }
+begins StateText = record { top = tt; inner = tt; around = tt }
 
 -- the block of a file is one of that file
-pub form_of_file : (file : FileId) (form : BlockForm) (text : List ℕ) (lines : FileLines) → first_block file ≡ Some form
-    → file_of_text form text ≡ Ok lines → IsFormOf file lines.block.form
-form_of_file file form text lines first is =
+pub form_of_file : (file : FileId) (text : List ℕ) (lines : FileLines) → file_of_text (first_block file) text ≡ Ok lines
+    → IsFormOf file lines.block.form
+form_of_file file text lines is =
     read_has (λ so_far rest. IsBelow so_far.below × IsOfFile file so_far) (λ whole. IsFormOf file whole.block.form)
     (λ so_far row rest read. (read.0, record { top = read.1.top; inner = read.1.inner; around = read.1.around }))
     (λ so_far line rest read. read)
@@ -215,4 +208,4 @@ form_of_file file form text lines first is =
       word_read file so_far.block so_far.around so_far.variants so_far.sections line rule so_far.below read.0 read.1 has,
     ))
     (λ so_far line rest rule read closes none. file_closed file so_far line rule read.1 closes)
-    (nothing_read form) [] (word_lines text) (line_count text) lines (tt, begins file form first) is
+    (nothing_read (first_block file)) [] (word_lines text) (line_count text) lines (tt, begins file) is

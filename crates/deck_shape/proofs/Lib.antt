@@ -1,4 +1,5 @@
 mod BelowLines
+pub mod BlockValues
 mod Depths
 mod FileForms
 mod FirstKinds

@@ -12,7 +12,7 @@ use Rattle.deck_shape.specs.declared.reading.Below.{Below}
 use Rattle.deck_shape.specs.declared.reading.Below.TheVariants.{Words, Rows, Enclosed}
 use Rattle.deck_words.specs.declared.table.BlockForm.{BlockForm}
 use Rattle.deck_words.specs.declared.table.BlockForm.TheVariants.{Simulation, LatticeFile, DefaultChoice, PeriodicCell, Explicit}
-use Rattle.deck_words.specs.declared.table.BlockForm.TheVariants.{EnergeticsFile, MechanismFile}
+use Rattle.deck_words.specs.declared.table.BlockForm.TheVariants.{EnergeticsFile, MechanismFile, StateFile}
 use Rattle.deck_words.specs.declared.table.Role.{Role}
 use Rattle.deck_words.specs.declared.table.Role.TheVariants.{Value, Rows as HasRows, Encloses, Opens, Begins, BeginsLattice}
 use Rattle.deck_words.specs.declared.table.Role.TheVariants.{Closes, Unsupported}
@@ -27,13 +27,13 @@ pub record SoFar : Type 0 where
   pub variants : List BlockLines
   pub sections : List SectionLines
 
--- the block that a file is before its first line, where its words are known
-abbrev pub first_block : FileId → Option BlockForm
-first_block SimulationText = Some Simulation
-first_block LatticeText = Some LatticeFile
-first_block EnergeticsText = Some EnergeticsFile
-first_block MechanismText = Some MechanismFile
-first_block StateText = None
+-- the block that a file is before its first line
+abbrev pub first_block : FileId → BlockForm
+first_block SimulationText = Simulation
+first_block LatticeText = LatticeFile
+first_block EnergeticsText = EnergeticsFile
+first_block MechanismText = MechanismFile
+first_block StateText = StateFile
 
 -- a file of which one block is open and nothing else is read
 abbrev pub only_open : BlockLines → SoFar

@@ -1,5 +1,5 @@
 -- The shape of a file, and what reading it may answer.
-use Rattle.std.specs.Prelude.{◌≡◌, ℕ, List, Some, Result, Ok, Err}
+use Rattle.std.specs.Prelude.{◌≡◌, ℕ, List, Result, Ok, Err}
 use Rattle.kmc_base.specs.declared.ids.FileId.{FileId}
 use Rattle.deck_shape.specs.Blocks.{OfEachBlock, file_at}
 use Rattle.deck_shape.specs.LineFaults.{file_of_text}
@@ -10,14 +10,11 @@ use Rattle.deck_shape.specs.declared.fault.DeckFault.{DeckFault}
 use Rattle.deck_shape.specs.declared.fault.DeckFault.TheVariants.{Fault as Faulty, OutOfMemory}
 use Rattle.deck_shape.specs.declared.shape.Shape.{Shape}
 use Rattle.deck_words.specs.declared.fault.LineFault.{LineFault}
-use Rattle.deck_words.specs.declared.table.BlockForm.{BlockForm}
 
 -- the shape of a text of a file: its blocks are those of the text, they are whole, their lines rise, and the file's block
 -- is one of that file
 pub record IsShapeOf (file : FileId) (text : List ℕ) (shape : Shape) : Type 0 where
-  pub form : BlockForm
-  pub begins : first_block file ≡ Some form
-  pub read : file_of_text form text ≡ Ok (file_at text shape)
+  pub read : file_of_text (first_block file) text ≡ Ok (file_at text shape)
   pub whole : IsWholeFile (file_at text shape)
   pub rising : OfEachBlock RisesBlock (file_at text shape)
   pub form_of_file : IsFormOf file shape.block.form

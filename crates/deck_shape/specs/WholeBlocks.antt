@@ -13,6 +13,7 @@ use Rattle.deck_words.specs.Tables.{allows, rule_for, rules_of}
 use Rattle.deck_words.specs.declared.keyword.Keyword.{Keyword}
 use Rattle.deck_words.specs.declared.table.BlockForm.{BlockForm}
 use Rattle.deck_words.specs.declared.table.BlockForm.TheVariants.{Simulation, DefaultChoice, PeriodicCell, Explicit, Energetics, Mechanism}
+use Rattle.deck_words.specs.declared.table.BlockForm.TheVariants.{InitialState}
 use Rattle.deck_words.specs.declared.table.Role.TheVariants.{Opens}
 use Rattle.deck_words.specs.declared.table.Rule.{Rule}
 
@@ -29,7 +30,7 @@ IsFormOf SimulationText form = form ≡ Simulation
 IsFormOf LatticeText form = IsLatticeForm form
 IsFormOf EnergeticsText form = form ≡ Energetics
 IsFormOf MechanismText form = form ≡ Mechanism
-IsFormOf StateText form = ⊥
+IsFormOf StateText form = form ≡ InitialState
 
 -- a word that the block has, with as many arguments as it takes
 pub record IsKnown (form : BlockForm) (item : ItemLines) : Type 0 where

@@ -15,7 +15,7 @@ pub struct Name {
 }
 
 /// Words of a line, as names.
-pub(crate) fn names_of(alloc: Global, words: &[Span], line: u32) -> Result<Vec<Name>, OutOfMemory>
+pub fn names_of(alloc: Global, words: &[Span], line: u32) -> Result<Vec<Name>, OutOfMemory>
     ensures { IfOk result (λ names. names.items ≡ map (name_of line) words.now) }
 {
     let mut names = Vec::new(alloc);

@@ -1,4 +1,4 @@
-ghost use Rattle.std.specs.Prelude.{◌≡◌, ◌-◌, ◌^◌, ◌<◌, ◌≤◌, IfOk, IfErr, IsSome, length, Ok, count_by};
+ghost use Rattle.std.specs.Prelude.{◌≡◌, ◌-◌, ◌^◌, ◌<◌, ◌≤◌, IfOk, IfErr, length, Ok, count_by};
 ghost use Rattle.dec_text.specs.Bytes.{is_line_feed};
 ghost use Rattle.dec_text.specs.Spans.{line_at};
 ghost use Rattle.deck_shape.specs.Blocks.{file_at};
@@ -84,16 +84,11 @@ fn read_file(alloc: Global, file: FileId, form: BlockForm, bytes: &[u8]) -> Resu
 /// The shape of a file: its blocks with their word lines and rows, or its first fault of form.
 ///
 /// The faults of form are `kind::STRAY_ROW` to `kind::UNKNOWN_LATTICE`. A file is read up to its first faulty line, or
-/// its closing word; of the kinds that hold at that line the least is the fault. The files that have tables so far are
-/// those of the simulation, the lattice, the energetics and the mechanism.
+/// its closing word; of the kinds that hold at that line the least is the fault.
 pub fn read_shape(alloc: Global, file: FileId, bytes: &[u8]) -> Result<Shape, DeckFault>
-    requires known { IsSome (first_block file) }
-    requires short { length bytes.now < 2 ^ 32 - 1 }
+    requires { length bytes.now < 2 ^ 32 - 1 }
     ensures shape { IfOk result (IsShapeOf file bytes.now) }
-    ensures fault { (form : BlockForm) → first_block file ≡ Some form → IfErr result (IsFaultOf file (file_of_text form bytes.now)) }
+    ensures fault { IfErr result (IsFaultOf file (file_of_text (first_block file) bytes.now)) }
 {
-    let Some(form) = first_block(file) else {
-        unreachable!();
-    };
-    read_file(alloc, file, form, bytes)
+    read_file(alloc, file, first_block(file), bytes)
 }

@@ -39,16 +39,16 @@ pub(crate) struct Reading {
     sections: Vec<Section>,
 }
 
-/// The block that a file is before its first line, where its words are known.
-pub(crate) fn first_block(file: FileId) -> Option<BlockForm>
+/// The block that a file is before its first line.
+pub(crate) fn first_block(file: FileId) -> BlockForm
     ensures { result ≡ first_block file }
 {
     match file {
-        FileId::Simulation => Some(BlockForm::Simulation),
-        FileId::Lattice => Some(BlockForm::LatticeFile),
-        FileId::Energetics => Some(BlockForm::EnergeticsFile),
-        FileId::Mechanism => Some(BlockForm::MechanismFile),
-        FileId::State => None,
+        FileId::Simulation => BlockForm::Simulation,
+        FileId::Lattice => BlockForm::LatticeFile,
+        FileId::Energetics => BlockForm::EnergeticsFile,
+        FileId::Mechanism => BlockForm::MechanismFile,
+        FileId::State => BlockForm::StateFile,
     }
 }
 

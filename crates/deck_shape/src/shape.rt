@@ -41,7 +41,7 @@ impl Item {
     }
 
     /// The words behind its keyword, as names.
-    pub(crate) fn names(&self, alloc: Global) -> Result<Vec<Name>, OutOfMemory>
+    pub fn names(&self, alloc: Global) -> Result<Vec<Name>, OutOfMemory>
         ensures { IfOk result (λ names. (text : List ℕ) → map (name_at text) names.items ≡ names_on (item_at text self.now)) }
     {
         names_of(alloc, self.arguments(), self.line.number)

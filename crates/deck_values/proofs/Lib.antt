@@ -1,3 +1,4 @@
+pub mod EarliestFaults
 pub mod FaultLists
 pub mod NameFaults
 pub mod Powers

@@ -11,7 +11,7 @@ use Rattle.dec_text.specs.Wholes.{whole_number}
 use Rattle.dec_text.specs.declared.faults.DecimalFault.{DecimalFault}
 use Rattle.dec_text.specs.declared.faults.NotWhole.{NotWhole}
 use Rattle.deck_words.specs.declared.kind.TheConstants.{OUT_OF_RANGE}
-use Rattle.deck_values.proofs.Values.{value_map-holds}
+use Rattle.deck_words.proofs.HeldValues.{value_map-holds}
 use Rattle.deck_values.specs.Numbers.{amount_in, is_up_to, is_whole_in, scaled_from, scaled_in}
 use Rattle.deck_values.specs.Numbers.{scaled_or_kind, up_to, up_to_from, whole_in, whole_within}
 use Rattle.deck_values.specs.declared.number.ScaledRange.{ScaledRange}

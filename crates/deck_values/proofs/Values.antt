@@ -8,31 +8,12 @@ use Rattle.std.proofs.lemmas.Bool.Decides.{nat_tests}
 use Rattle.std.proofs.lemmas.List.{length-map}
 use Rattle.std.proofs.lemmas.Result.{IfOk-weaker}
 use Rattle.dec_text.specs.Lines.{Run}
+use Rattle.deck_words.proofs.HeldValues.{at_line-holds, both-holds, none-holds, value_map-holds, with_fault-holds}
 use Rattle.deck_words.specs.Faults.{all_of, at_line, both, value_map, with_fault}
 use Rattle.deck_words.specs.declared.fault.LineFault.{LineFault}
 use Rattle.deck_words.specs.declared.kind.TheConstants.{BAD_NAME, LIST_LENGTH, REPEATED_NAME}
 use Rattle.deck_values.specs.Lists.{absent_list, fault_if, has_members, has_other_length, list_on}
-use Rattle.deck_values.specs.Names.{bytes_of, is_bad_name, names_repeat, species_on}
-use Rattle.deck_values.specs.Words.{one}
-
-pub both-holds : {X Y : Type 0} (P : X → Type 0) (Q : Y → Type 0) (a : Result X LineFault) (b : Result Y LineFault)
-    → IfOk a P → IfOk b Q → IfOk (both a b) (λ found. P found.0 × Q found.1)
-both-holds P Q (Ok x) (Ok y) p q = (p, q)
-both-holds P Q (Ok x) (Err g) p q = tt
-both-holds P Q (Err f) (Ok y) p q = tt
-both-holds P Q (Err f) (Err g) p q = tt
-
-pub value_map-holds : {X Y F : Type 0} (P : Y → Type 0) (f : X → Y) (r : Result X F) → IfOk r (λ x. P (f x)) → IfOk (value_map f r) P
-value_map-holds P f (Ok x) p = p
-value_map-holds P f (Err e) p = tt
-
-none-holds : {X : Type 0} (P : X → Type 0) (f : LineFault) (r : Result X LineFault) → IfOk (with_fault (Some f) r) P
-none-holds P f (Ok x) = tt
-none-holds P f (Err g) = tt
-
-pub with_fault-holds : {X : Type 0} (P : X → Type 0) (fault : Option LineFault) (r : Result X LineFault) → IfOk r P → IfOk (with_fault fault r) P
-with_fault-holds P None r p = p
-with_fault-holds P (Some f) r p = none-holds P f r
+use Rattle.deck_values.specs.Names.{bytes_of, is_bad_name, names_on, names_repeat, repeat_fault, species_on, words_on}
 
 -- a value that no fault was found beside
 pub unless-holds : {X : Type 0} (P : X → Type 0) (holds : Bool) (line kind : ℕ) (r : Result X LineFault)
@@ -46,16 +27,6 @@ pub stated-holds : {X Y : Type 0} (P : X → Type 0) (Q : Y → Type 0) (r : Res
     → IfOk r P → ((x : X) → P x → IfOk (next (Some x)) Q) → IfOk (with_fault (result_err r) (next (result_ok r))) Q
 stated-holds P Q (Ok x) next p q = q x p
 stated-holds P Q (Err f) next p q = none-holds Q f (next None)
-
-pub at_line-holds : {X : Type 0} (P : X → Type 0) (line : ℕ) (r : Result X ℕ) → IfOk r P → IfOk (at_line line r) P
-at_line-holds P line (Ok x) p = p
-at_line-holds P line (Err kind) p = tt
-
-pub one-holds : {X : Type 0} (P : X → Type 0) (read : List ℕ → Result X ℕ) (words : List (List ℕ))
-    → ((word : List ℕ) → IfOk (read word) P) → IfOk (one read words) P
-one-holds P read [] p = tt
-one-holds P read (word ∷ []) p = p word
-one-holds P read (word ∷ next ∷ words) p = tt
 
 -- so many members, of each of which P holds
 abbrev pub AreSo : {X : Type 0} → (X → Type 0) → ℕ → List X → Type 0
@@ -74,6 +45,18 @@ all_of-holds P read line (word ∷ words) p =
 
 same_length : (members count : ℕ) → not (members == count) ≡ false → members ≡ count
 same_length members count same = grind (arith, nat_tests)
+
+-- so many words
+pub words_on-holds : {X : Type 0} (P : List X → Type 0) (count line : ℕ) (words : List X) → (length words ≡ count → P words)
+    → IfOk (words_on (Some count) line words) P
+words_on-holds P count line words p =
+    unless-holds P (has_other_length (Some count) (length words)) line LIST_LENGTH (Ok words) (λ same. p (same_length (length words) count same))
+
+pub names_on-holds : (P : List Run → Type 0) (count line : ℕ) (words : List Run) → (length words ≡ count → P words)
+    → IfOk (names_on (Some count) line words) P
+names_on-holds P count line words p =
+    unless-holds P (has_other_length (Some count) (length words)) line LIST_LENGTH _
+    (λ same. with_fault-holds P (repeat_fault line (bytes_of words)) (Ok words) (p (same_length (length words) count same)))
 
 pub list_on-holds : {X : Type 0} (P : X → Type 0) (read : List ℕ → Result X ℕ) (count line : ℕ) (words : List (List ℕ))
     → ((word : List ℕ) → IfOk (read word) P) → IfOk (list_on read (Some count) line words) (AreSo P count)

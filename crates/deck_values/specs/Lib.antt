@@ -1,4 +1,6 @@
+pub mod Edges
 pub mod Lists
 pub mod Names
 pub mod Numbers
-pub mod Words
+pub mod Readings
+pub mod Rows

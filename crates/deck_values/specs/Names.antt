@@ -1,4 +1,4 @@
--- The names on a line.
+-- The words and the names on a line.
 use Rattle.std.specs.Prelude.{ℕ, ◌||◌, Bool, false, List, [], ◌∷◌, length, map, Option, Result, Ok, codes}
 use Rattle.std.specs.List.{list_any}
 use Rattle.dec_text.specs.Lines.{Run}
@@ -11,6 +11,10 @@ use Rattle.deck_values.specs.Lists.{fault_if, length_fault}
 -- the bytes of some words
 abbrev pub bytes_of : List Run → List (List ℕ)
 bytes_of words = map (λ word. word.bytes) words
+
+-- the words of a line, of which there should be so many, where that number is known
+abbrev pub words_on : {X : Type 0} → Option ℕ → ℕ → List X → Result (List X) LineFault
+words_on count line words = with_fault (length_fault line count (length words)) (Ok words)
 
 -- a list has a name twice
 abbrev pub names_repeat : List (List ℕ) → Bool

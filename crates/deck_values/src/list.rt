@@ -3,10 +3,9 @@ ghost use Rattle.dec_text.specs.Spans.{bytes_at};
 ghost use Rattle.deck_words.specs.Faults.{both, value_map};
 ghost use Rattle.deck_values.specs.Lists.{absent_list, fault_if, has_members, has_other_length, list_on};
 
-use crate::words::ReadWord;
 use dec_text::Span;
 use deck_words::kind::LIST_LENGTH;
-use deck_words::{LineFault, at_line, with_fault};
+use deck_words::{LineFault, ReadWord, at_line, with_fault};
 use kmc_base::OutOfMemory;
 use std::alloc::Global;
 
@@ -42,7 +41,7 @@ fn has_members(count: Option<u64>) -> bool
 }
 
 /// The members so far and one more, or the earliest of their faults.
-fn with_next<T: Drop>(
+pub fn with_next<T: Drop>(
     so_far: Result<Vec<T>, LineFault>,
     next: Result<T, LineFault>,
 ) -> Result<Result<Vec<T>, LineFault>, OutOfMemory>

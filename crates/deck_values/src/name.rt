@@ -2,7 +2,7 @@ ghost use Rattle.std.specs.Prelude.{◌≡◌, IfOk, map};
 ghost use Rattle.std.specs.List.{list_any};
 ghost use Rattle.dec_text.specs.Spans.{bytes_at, run_at};
 ghost use Rattle.deck_words.specs.Faults.{value_map};
-ghost use Rattle.deck_values.specs.Names.{is_bad_name, names_on, names_repeat, species_on};
+ghost use Rattle.deck_values.specs.Names.{is_bad_name, names_on, names_repeat, species_on, words_on};
 
 use crate::list::{fault_if, has_other_length};
 use dec_text::Span;
@@ -11,6 +11,15 @@ use deck_words::{LineFault, with_fault};
 use kmc_base::OutOfMemory;
 use std::alloc::Global;
 use std::collections::BTreeSet;
+
+/// The words of a line, of which there should be so many, where that number is known; or else the fault of the line,
+/// `LIST_LENGTH`.
+pub fn words_on<T: Drop>(count: Option<u64>, line: u32, words: Vec<T>) -> Result<Vec<T>, LineFault>
+    ensures { value_map (λ list. list.items) result ≡ words_on count line words.items }
+{
+    let other_length = has_other_length(count, words.len());
+    with_fault(fault_if(other_length, line, LIST_LENGTH), Ok(words))
+}
 
 /// A list has a name twice.
 fn names_repeat(alloc: Global, bytes: &[u8], names: &[Span]) -> Result<bool, OutOfMemory>

@@ -4,9 +4,10 @@ ghost use Rattle.dec_text.specs.Wholes.{whole_number};
 ghost use Rattle.deck_values.specs.Numbers.{IsAmount, IsScaledRange, amount_in, any_decimal, decimal_kind, scaled_in, up_to, whole_in};
 ghost use Rattle.deck_values.specs.Numbers.{is_at_most, is_up_to, is_whole_in};
 
-use crate::words::ReadWord;
 use dec_text::{Decimal, DecimalFault, read_decimal, read_whole};
+use deck_words::ReadWord;
 use deck_words::kind::{NOT_NUMBER, NOT_WHOLE, OUT_OF_RANGE};
+use kmc_base::MAX_ENERGY;
 
 /// The range of a whole number, its bounds included.
 #[derive(Clone, Copy, Debug, PartialEq, Eq)]
@@ -45,6 +46,19 @@ pub struct UpTo {
 /// Any decimal.
 #[derive(Clone, Copy, Debug, PartialEq, Eq)]
 pub struct AnyDecimal;
+
+/// An energy in eV, kept in neV (10^-9 eV): of a magnitude of at most 1,000 eV.
+pub const ENERGY: ScaledRange = ScaledRange {
+    places: 9,
+    least: -MAX_ENERGY,
+    most: MAX_ENERGY,
+};
+
+/// Any whole number below 2^64.
+pub const ANY_WHOLE: WholeRange = WholeRange {
+    least: 0,
+    most: 18_446_744_073_709_551_615,
+};
 
 /// A whole number is in a range.
 fn is_whole_in(range: WholeRange, n: u64) -> bool
@@ -142,7 +156,7 @@ fn is_at_most(digits: u64, power: i32, most: u32) -> bool
 }
 
 /// A decimal is from 0 to ten to a power.
-pub fn is_up_to(power: u32, n: Decimal) -> bool
+fn is_up_to(power: u32, n: Decimal) -> bool
     requires { power ≤ 18 }
     ensures { result ≡ is_up_to power n }
 {

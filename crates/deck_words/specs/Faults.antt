@@ -11,6 +11,17 @@ is_before a b = nat_lt a.line b.line || (a.line == b.line && nat_le a.kind b.kin
 abbrev pub earlier : LineFault → LineFault → LineFault
 earlier a b = if is_before a b then a else b
 
+-- the earlier of two faults, where there are any
+abbrev pub earliest : Option LineFault → Option LineFault → Option LineFault
+earliest None other = other
+earliest (Some fault) None = Some fault
+earliest (Some fault) (Some other) = Some (earlier fault other)
+
+-- the fault of a reading
+abbrev pub fault_of : {X : Type 0} → Result X LineFault → Option LineFault
+fault_of (Ok value) = None
+fault_of (Err fault) = Some fault
+
 -- what is read on a line, with the line for its fault
 abbrev pub at_line : {X : Type 0} → ℕ → Result X ℕ → Result X LineFault
 at_line line (Ok value) = Ok value
@@ -37,3 +48,8 @@ abbrev pub with_fault : {X : Type 0} → Option LineFault → Result X LineFault
 with_fault None reading = reading
 with_fault (Some f) (Ok x) = Err f
 with_fault (Some f) (Err g) = Err (earlier f g)
+
+-- what is read of a value, unless that has a fault itself
+abbrev pub when_read : {X Y : Type 0} → (X → Result Y LineFault) → Result X LineFault → Result Y LineFault
+when_read read (Ok value) = read value
+when_read read (Err fault) = Err fault

@@ -16,6 +16,7 @@ use Rattle.deck_words.specs.declared.keyword.Keyword.TheVariants.{Mechanism, Ste
 use Rattle.deck_words.specs.declared.keyword.Keyword.TheVariants.{Final, PreExpon, PeRatio, ActivEng, ProxFactor, EndStep}
 use Rattle.deck_words.specs.declared.keyword.Keyword.TheVariants.{EndReversibleStep, EndMechanism, Variant, EndVariant, Angles}
 use Rattle.deck_words.specs.declared.keyword.Keyword.TheVariants.{NoMirrorImages, AbslOrientation}
+use Rattle.deck_words.specs.declared.keyword.Keyword.TheVariants.{InitialState, SeedOnSites, SeedMultiple, EndInitialState}
 
 -- how each is spelled (Zacros manual); case counts
 abbrev pub spelling : Keyword → List ℕ
@@ -85,3 +86,7 @@ spelling EndVariant = codes "end_variant"
 spelling Angles = codes "angles"
 spelling NoMirrorImages = codes "no_mirror_images"
 spelling AbslOrientation = codes "absl_orientation"
+spelling InitialState = codes "initial_state"
+spelling SeedOnSites = codes "seed_on_sites"
+spelling SeedMultiple = codes "seed_multiple"
+spelling EndInitialState = codes "end_initial_state"

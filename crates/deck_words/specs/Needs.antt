@@ -5,7 +5,7 @@ use Rattle.deck_words.specs.declared.keyword.Keyword.TheVariants.{Temperature, P
 use Rattle.deck_words.specs.declared.keyword.Keyword.TheVariants.{RepeatCell, NCellSites, NSiteTypes, SiteTypeNames, SiteTypes}
 use Rattle.deck_words.specs.declared.keyword.Keyword.TheVariants.{NeighboringStructure, NSites, LatticeStructure}
 use Rattle.deck_words.specs.declared.keyword.Keyword.TheVariants.{Cluster, Step, ReversibleStep, Variant, Sites, LatticeState, ClusterEng}
-use Rattle.deck_words.specs.declared.keyword.Keyword.TheVariants.{Initial, Final, PreExpon, PeRatio, ActivEng}
+use Rattle.deck_words.specs.declared.keyword.Keyword.TheVariants.{Initial, Final, PreExpon, PeRatio, ActivEng, SeedOnSites}
 use Rattle.deck_words.specs.declared.table.BlockForm.{BlockForm}
 use Rattle.deck_words.specs.declared.table.BlockForm.TheVariants as Form
 use Rattle.deck_words.specs.declared.table.Need.{Need}
@@ -18,6 +18,7 @@ is_repeatable Cluster = true
 is_repeatable Step = true
 is_repeatable ReversibleStep = true
 is_repeatable Variant = true
+is_repeatable SeedOnSites = true
 is_repeatable keyword = false
 
 -- a word is required in some way

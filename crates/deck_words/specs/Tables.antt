@@ -10,11 +10,13 @@ use Rattle.deck_words.specs.declared.table.BlockForm.TheVariants.{Simulation, La
 use Rattle.deck_words.specs.declared.table.BlockForm.TheVariants.{NeighboringStructure, LatticeStructure}
 use Rattle.deck_words.specs.declared.table.BlockForm.TheVariants.{EnergeticsFile, Energetics, Cluster, ClusterVariant}
 use Rattle.deck_words.specs.declared.table.BlockForm.TheVariants.{MechanismFile, Mechanism, Step, ReversibleStep, StepVariant}
+use Rattle.deck_words.specs.declared.table.BlockForm.TheVariants.{StateFile, InitialState}
 use Rattle.deck_words.specs.declared.table.Rule.{Rule}
 use Rattle.deck_words.specs.declared.table.TheConstants.{SIMULATION, LATTICE_FILE, DEFAULT_CHOICE, PERIODIC_CELL, EXPLICIT}
 use Rattle.deck_words.specs.declared.table.TheConstants.{NEIGHBORING_STRUCTURE, LATTICE_STRUCTURE}
 use Rattle.deck_words.specs.declared.table.TheConstants.{ENERGETICS_FILE, ENERGETICS, CLUSTER, CLUSTER_VARIANT}
 use Rattle.deck_words.specs.declared.table.TheConstants.{MECHANISM_FILE, MECHANISM, STEP, REVERSIBLE_STEP, STEP_VARIANT}
+use Rattle.deck_words.specs.declared.table.TheConstants.{STATE_FILE, INITIAL_STATE}
 
 -- the rules of a block: its words
 abbrev pub rules_of : BlockForm → List Rule
@@ -34,6 +36,8 @@ rules_of Mechanism = MECHANISM
 rules_of Step = STEP
 rules_of ReversibleStep = REVERSIBLE_STEP
 rules_of StepVariant = STEP_VARIANT
+rules_of StateFile = STATE_FILE
+rules_of InitialState = INITIAL_STATE
 
 -- two words have the same bytes
 abbrev pub same_word : List ℕ → List ℕ → Bool

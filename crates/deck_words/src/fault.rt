@@ -1,5 +1,5 @@
 ghost use Rattle.std.specs.Prelude.{◌≡◌, ◌⊎◌, true};
-ghost use Rattle.deck_words.specs.Faults.{at_line, both, earlier, is_before, with_fault};
+ghost use Rattle.deck_words.specs.Faults.{at_line, both, earlier, earliest, fault_of, is_before, with_fault};
 ghost use Rattle.deck_words.specs.declared.fault.LineFault.{LineFault as FaultOfLine};
 
 /// A fault of a file.
@@ -31,6 +31,27 @@ pub fn earlier_is_least()
     ensures order { (a b : FaultOfLine) → earlier a b ≡ earlier b a }
     ensures groups { (a b c : FaultOfLine) → earlier (earlier a b) c ≡ earlier a (earlier b c) }
 {}
+
+/// The earlier of two faults, where there are any.
+pub fn earliest(a: Option<LineFault>, b: Option<LineFault>) -> Option<LineFault>
+    ensures { result ≡ earliest a b }
+{
+    match (a, b) {
+        (None, other) => other,
+        (Some(fault), None) => Some(fault),
+        (Some(fault), Some(other)) => Some(earlier(fault, other)),
+    }
+}
+
+/// The fault of a reading.
+pub fn fault_of<T: Drop>(reading: Result<T, LineFault>) -> Option<LineFault>
+    ensures { result ≡ fault_of reading }
+{
+    match reading {
+        Ok(_) => None,
+        Err(fault) => Some(fault),
+    }
+}
 
 /// What is read on a line, with the line for its fault.
 pub fn at_line<T>(line: u32, reading: Result<T, u8>) -> Result<T, LineFault>

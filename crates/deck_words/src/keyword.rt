@@ -70,6 +70,10 @@ pub enum Keyword {
     Angles,
     NoMirrorImages,
     AbslOrientation,
+    InitialState,
+    SeedOnSites,
+    SeedMultiple,
+    EndInitialState,
 }
 
 impl Keyword {
@@ -144,6 +148,10 @@ impl Keyword {
             Keyword::Angles => b"angles",
             Keyword::NoMirrorImages => b"no_mirror_images",
             Keyword::AbslOrientation => b"absl_orientation",
+            Keyword::InitialState => b"initial_state",
+            Keyword::SeedOnSites => b"seed_on_sites",
+            Keyword::SeedMultiple => b"seed_multiple",
+            Keyword::EndInitialState => b"end_initial_state",
         }
     }
 }

@@ -51,6 +51,10 @@ pub enum BlockForm {
     ReversibleStep,
     /// `variant` in a step of either kind.
     StepVariant,
+    /// The file `state_input.dat` before its block is opened.
+    StateFile,
+    /// `initial_state`.
+    InitialState,
 }
 
 /// How many arguments a word takes.
@@ -299,6 +303,18 @@ pub const STEP_VARIANT: [Rule; 9] = rules! {
     EndVariant: Exactly(0), true, Optional, Closes;
 };
 
+/// The words of `state_input.dat` before its block is opened.
+pub const STATE_FILE: [Rule; 1] = rules! {
+    InitialState: Exactly(0), true, Optional, Begins(BlockForm::InitialState);
+};
+
+/// The words of `initial_state`.
+pub const INITIAL_STATE: [Rule; 3] = rules! {
+    SeedOnSites: Any, false, Optional, Value;
+    SeedMultiple: Any, true, Optional, Unsupported;
+    EndInitialState: Exactly(0), true, Optional, Closes;
+};
+
 impl BlockForm {
     /// The words of the block.
     pub fn rules(self) -> &'static [Rule]
@@ -321,6 +337,8 @@ impl BlockForm {
             BlockForm::Step => &STEP,
             BlockForm::ReversibleStep => &REVERSIBLE_STEP,
             BlockForm::StepVariant => &STEP_VARIANT,
+            BlockForm::StateFile => &STATE_FILE,
+            BlockForm::InitialState => &INITIAL_STATE,
         }
     }
     /// The rule of a word, if the block has the word.
@@ -354,9 +372,8 @@ pub fn is_spelled(keyword: Keyword, word: &[u8]) -> bool
     keyword.spelling() == word
 }
 
-/// The words of the tables that a block has more than once are those that open blocks within it. It does nothing: its
-/// contract is a law.
-pub fn all_but_inner_blocks_are_once()
+/// The words of the tables that a block may have more than once. It does nothing: its contract is a law.
+pub fn repeatable_words_of_blocks()
     ensures { (form : Form) → map (λ rule. rule.is_once) (rules_of form) ≡ map (λ rule. not (is_repeatable rule.keyword)) (rules_of form) }
 {}
 

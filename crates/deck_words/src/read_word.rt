@@ -1,9 +1,4 @@
-ghost use Rattle.std.specs.Prelude.{◌≡◌, map};
-ghost use Rattle.dec_text.specs.Spans.{bytes_at};
-ghost use Rattle.deck_values.specs.Words.{one};
-
-use dec_text::Span;
-use deck_words::kind::ARGUMENT_COUNT;
+ghost use Rattle.std.specs.Prelude.{◌≡◌};
 
 /// How a word is read: a number in its range, for example.
 pub trait ReadWord {
@@ -22,15 +17,4 @@ pub trait ReadWord {
     fn read(&self, word: &[u8]) -> Result<Self::Value, u8>
         requires { is_usable self.now }
         ensures { result ≡ value_of self.now word.now };
-}
-
-/// The value of the one word that is there. Another number of words is the fault `ARGUMENT_COUNT`.
-pub fn one<R: ReadWord>(reading: &R, bytes: &[u8], words: &[Span]) -> Result<R::Value, u8>
-    requires { R.is_usable reading.now }
-    ensures { result ≡ one (R.value_of reading.now) (map (bytes_at bytes.now) words.now) }
-{
-    match words {
-        [word] => reading.read(word.bytes(bytes)),
-        _ => Err(ARGUMENT_COUNT),
-    }
 }
