@@ -4,6 +4,7 @@ use Rattle.std.specs.Result.{result_ok}
 use Rattle.kmc_base.specs.declared.limits.TheConstants.{MAX_SITES}
 use Rattle.deck_shape.specs.Blocks.{BlockLines}
 use Rattle.deck_shape.specs.Names.{NameWord}
+use Rattle.deck_values.proofs.NameFaults.{with_fault-map}
 use Rattle.deck_words.specs.Faults.{both, value_map, with_fault}
 use Rattle.deck_words.specs.declared.fault.LineFault.{LineFault}
 use Rattle.deck_words.specs.declared.keyword.Keyword.TheVariants.{NCellSites, NSites}
@@ -12,7 +13,7 @@ use Rattle.lattice_deck.specs.Sizes.{AreRepeats}
 use Rattle.lattice_deck.specs.declared.joins.JoinRow.{JoinRow}
 use Rattle.site_rows.specs.SiteRows.{SiteRow}
 use Rattle.site_rows.specs.declared.type_word.TheConstants.{MAX_SITE_TYPES}
-use Rattle.lattice_deck.proofs.Readings.{both_mapped, both_parts, is_ok, value_same, with_mapped, without_fault}
+use Rattle.lattice_deck.proofs.Readings.{both_mapped, both_parts, is_ok, value_same, without_fault}
 use Rattle.lattice_deck.proofs.SizesSound.{AreFew, IsIn, cell_bounds, names_bounds, sites_bounds, words_count}
 use Rattle.lattice_deck.specs.declared.ranges.TheConstants.{SITE_COUNT}
 
@@ -77,7 +78,7 @@ module _ {N W J : Type 0} (f : N → List (List ℕ)) (g : W → List NameWord) 
       (both (type_names block) (both (type_words (result_ok (sites_in NCellSites block)) block) (cell_joins block))))) sizes
       ∙ ap (λ b. with_fault unused (both (value_map (λ v. v) (both sites repeats)) b)) lists
       ∙ ap (with_fault unused) (both_mapped (λ v. v) (λ v. (f v.0, (g v.1.0, h v.1.1))) (both sites repeats) (both names (both words joins)))
-      ∙ with_mapped (λ v. (v.0, (f v.1.0, (g v.1.1.0, h v.1.1.1)))) unused (both (both sites repeats) (both names (both words joins)))
+      ∙ sym (with_fault-map (λ v. (v.0, (f v.1.0, (g v.1.1.0, h v.1.1.1)))) unused (both (both sites repeats) (both names (both words joins))))
 
 module _ {N R : Type 0} (f : N → List (List ℕ)) (g : R → List SiteRow)
     (block : BlockLines) (unused : Option LineFault) (sites : Result ℕ LineFault) (names : Result N LineFault) (rows : Result R LineFault)
@@ -106,7 +107,7 @@ module _ {N R : Type 0} (f : N → List (List ℕ)) (g : R → List SiteRow)
       (sym sites_are ∙ value_same sites)
       ∙ ap (λ b. with_fault unused (both (value_map (λ v. v) sites) b)) lists
       ∙ ap (with_fault unused) (both_mapped (λ v. v) (λ v. (f v.0, g v.1)) sites (both names rows))
-      ∙ with_mapped (λ v. (v.0, (f v.1.0, g v.1.1))) unused (both sites (both names rows))
+      ∙ sym (with_fault-map (λ v. (v.0, (f v.1.0, g v.1.1))) unused (both sites (both names rows)))
 
 -- what is read in steps is read together
 pub cell_chain : {A B C D E : Type 0} (unused : Option LineFault) (sites : Result A LineFault) (repeats : Result B LineFault)

@@ -1,5 +1,6 @@
 mod CellFacts
 mod Displacements
+mod FewTypes
 mod Readings
 mod SizesSound
 mod TypeWords

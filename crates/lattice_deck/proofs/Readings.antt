@@ -1,30 +1,10 @@
 -- what a reading gives, and what holds of it
-use Rattle.std.proofs.Common.{◌≡◌, ap, refl, sym, ℕ, Option, None, Some, IfOk, IfSome, Result, Ok, Err}
-use Rattle.std.specs.List.{find}
-use Rattle.std.specs.Option.{option_map_or}
+use Rattle.std.proofs.Common.{◌≡◌, ap, refl, sym, Option, None, Some, IfOk, IfSome, Result, Ok, Err}
 use Rattle.std.specs.Result.{result_ok}
-use Rattle.deck_shape.specs.Blocks.{BlockLines, ItemLines, has_keyword}
-use Rattle.deck_words.specs.Faults.{at_line, both, value_map, with_fault}
+use Rattle.deck_words.specs.Faults.{both, value_map, when_read, with_fault}
 use Rattle.deck_words.specs.declared.fault.LineFault.{LineFault}
-use Rattle.deck_words.specs.declared.keyword.Keyword.{Keyword}
-use Rattle.lattice_deck.specs.Lines.{required, when_read}
 
 module _ {X : Type 0} (P : X → Type 0) where
-  pub at_line_ok : (line : ℕ) (r : Result X ℕ) → IfOk r P → IfOk (at_line line r) P
-  at_line_ok line (Ok x) holds = holds
-  at_line_ok line (Err k) holds = tt
-
-  pub required_ok : (keyword : Keyword) (block : BlockLines) (read : ItemLines → Result X LineFault) → ((item : ItemLines) → IfOk (read item) P)
-      → IfOk (required keyword block read) P
-  required_ok keyword block read holds =
-      elim (find (has_keyword keyword) block.items) as (λ found. IfOk (option_map_or read found (Err (record { line = block.end_line; kind = 8 }))) P)
-      [ None ↦ tt | Some item ↦ holds item ]
-
-  pub with_fault_ok : (fault : Option LineFault) (r : Result X LineFault) → (fault ≡ None → IfOk r P) → IfOk (with_fault fault r) P
-  with_fault_ok None r holds = holds refl
-  with_fault_ok (Some f) (Ok x) holds = tt
-  with_fault_ok (Some f) (Err g) holds = tt
-
   pub some_ok : (r : Result X LineFault) → IfOk r P → IfSome (result_ok r) P
   some_ok (Ok x) holds = holds
   some_ok (Err f) holds = tt
@@ -37,21 +17,10 @@ module _ {X : Type 0} (P : X → Type 0) where
   is_some (Ok y) x is holds = let e : y ≡ x = cc in rw (sym e) holds
   is_some (Err f) x is holds = absurd (cc)
 
-pub value_ok : {X Y : Type 0} (P : Y → Type 0) (f : X → Y) (r : Result X LineFault) → IfOk r (λ x. P (f x)) → IfOk (value_map f r) P
-value_ok P f (Ok x) holds = holds
-value_ok P f (Err g) holds = tt
-
 pub when_ok : {X Y : Type 0} (P : Y → Type 0) (Q : X → Type 0) (read : X → Result Y LineFault) (r : Result X LineFault)
     → IfOk r Q → ((x : X) → Q x → IfOk (read x) P) → IfOk (when_read read r) P
 when_ok P Q read (Ok x) holds next = next x holds
 when_ok P Q read (Err f) holds next = tt
-
-pub both_ok : {X Y : Type 0} (P : X → Type 0) (Q : Y → Type 0) (a : Result X LineFault) (b : Result Y LineFault)
-    → IfOk a P → IfOk b Q → IfOk (both a b) (λ r. P r.0 × Q r.1)
-both_ok P Q (Ok x) (Ok y) first second = (first, second)
-both_ok P Q (Ok x) (Err g) first second = tt
-both_ok P Q (Err f) (Ok y) first second = tt
-both_ok P Q (Err f) (Err g) first second = tt
 
 -- the parts of two values that are read
 pub both_parts : {X Y : Type 0} (a : Result X LineFault) (b : Result Y LineFault) (r : X × Y) → both a b ≡ Ok r → (a ≡ Ok r.0) × (b ≡ Ok r.1)
@@ -72,12 +41,6 @@ both_mapped f g (Ok x) (Ok y) = refl
 both_mapped f g (Ok x) (Err e) = refl
 both_mapped f g (Err e) (Ok y) = refl
 both_mapped f g (Err d) (Err e) = refl
-
-pub with_mapped : {A B : Type 0} (f : A → B) (fault : Option LineFault) (a : Result A LineFault)
-    → with_fault fault (value_map f a) ≡ value_map f (with_fault fault a)
-with_mapped f None a = refl
-with_mapped f (Some e) (Ok x) = refl
-with_mapped f (Some e) (Err g) = refl
 
 pub value_same : {A : Type 0} (a : Result A LineFault) → a ≡ value_map (λ x. x) a
 value_same (Ok x) = refl

@@ -5,11 +5,11 @@ use Rattle.dec_text.specs.Lines.{WordLine}
 use Rattle.deck_shape.specs.Blocks.{ItemLines}
 use Rattle.deck_values.specs.Lists.{fault_if, has_other_length}
 use Rattle.deck_values.specs.Numbers.{any_decimal}
-use Rattle.deck_words.specs.Faults.{at_line, both}
+use Rattle.deck_values.specs.Readings.{least}
+use Rattle.deck_values.specs.Rows.{row_words}
+use Rattle.deck_words.specs.Faults.{at_line, both, earliest, fault_of}
 use Rattle.deck_words.specs.declared.fault.LineFault.{LineFault}
 use Rattle.deck_words.specs.declared.kind.TheConstants.{NOT_NUMBER, ROW_COUNT, ROW_FORM}
-use Rattle.site_rows.specs.Readings.{earliest, fault_of, least}
-use Rattle.site_rows.specs.Words.{row_words}
 
 -- the two decimals of a row
 abbrev pub two_decimals : ℕ → List (List ℕ) → Result (Scientific × Scientific) LineFault

@@ -6,8 +6,11 @@ use Rattle.std.specs.List.{list_any}
 use Rattle.std.specs.Option.{option_map}
 use Rattle.dec_text.specs.Lines.{WordLine}
 use Rattle.deck_shape.specs.Blocks.{ItemLines}
+use Rattle.deck_values.specs.Edges.{edge_of}
 use Rattle.deck_values.specs.Lists.{fault_if}
-use Rattle.deck_words.specs.Faults.{with_fault}
+use Rattle.deck_values.specs.Readings.{least, least_fault, values_of}
+use Rattle.deck_values.specs.Rows.{or_form_fault, row_words}
+use Rattle.deck_words.specs.Faults.{earliest, when_read, with_fault}
 use Rattle.deck_words.specs.Tables.{same_word}
 use Rattle.deck_words.specs.declared.fault.LineFault.{LineFault}
 use Rattle.deck_words.specs.declared.kind.TheConstants.{BAD_EDGE, SELF_NEIGHBOUR, TOO_MANY_NEIGHBOURS}
@@ -17,13 +20,9 @@ use Rattle.lattice_cell.specs.declared.cell.Join.{Join}
 use Rattle.lattice_cell.specs.declared.cell.Toward.{Toward}
 use Rattle.lattice_cell.specs.declared.cell.Toward.TheVariants.{Own, North, Northeast, East, Southeast}
 use Rattle.lattice_core.specs.declared.graph.TheConstants.{MAX_NEIGHBOURS}
-use Rattle.lattice_deck.specs.Lines.{when_read}
 use Rattle.lattice_deck.specs.declared.joins.JoinRow.{JoinRow}
 use Rattle.lattice_deck.specs.declared.sizes.Sizes.{Sizes}
-use Rattle.site_rows.specs.Edges.{edge_of}
-use Rattle.site_rows.specs.Readings.{earliest, least, least_fault, values_of}
-use Rattle.site_rows.specs.SiteRows.{or_form_fault}
-use Rattle.site_rows.specs.Words.{is_no_site, row_words}
+use Rattle.site_rows.specs.SiteNumbers.{is_no_site}
 
 -- the displacement of the second site's cell
 abbrev pub toward_of : List ℕ → Option Toward

@@ -1,21 +1,24 @@
 -- The values of a lattice file.
-use Rattle.std.specs.Prelude.{ℕ, List, [], ◌∷◌, length, map, Option, Some, Result, Ok, Err, codes}
+use Rattle.std.specs.Prelude.{ℕ, List, [], ◌∷◌, length, map, Option, Some, Result, Err, codes}
 use Rattle.std.specs.List.{find}
 use Rattle.std.specs.Option.{option_map_or}
 use Rattle.std.specs.Result.{result_ok}
+use Rattle.deck_shape.specs.BlockValues.{fault_in, required, value_on}
 use Rattle.deck_shape.specs.Blocks.{BlockLines, ItemLines, has_keyword}
 use Rattle.deck_shape.specs.LineWords.{arguments_of}
 use Rattle.deck_shape.specs.Names.{NameWord, name_at, on_line}
-use Rattle.deck_shape.specs.WordLines.{names_on as words_on}
+use Rattle.deck_shape.specs.WordLines.{names_on as names_of_line}
 use Rattle.deck_values.specs.Lists.{fault_if, has_other_length}
-use Rattle.deck_values.specs.Names.{bytes_of, names_on}
-use Rattle.deck_words.specs.Faults.{both, value_map, with_fault}
+use Rattle.deck_values.specs.Names.{bytes_of, names_on, words_on}
+use Rattle.deck_values.specs.Numbers.{whole_in}
+use Rattle.deck_values.specs.declared.number.TheConstants.{ANY_WHOLE}
+use Rattle.deck_words.specs.Faults.{both, earliest, fault_of, value_map, with_fault}
 use Rattle.deck_words.specs.declared.fault.LineFault.{LineFault}
 use Rattle.deck_words.specs.declared.keyword.Keyword.{Keyword}
 use Rattle.deck_words.specs.declared.keyword.Keyword.TheVariants.{CellVectors, HexagonalPeriodic, LatticeStructure, MaxCoord, NCellSites}
 use Rattle.deck_words.specs.declared.keyword.Keyword.TheVariants.{NeighboringStructure, NSites, NSiteTypes, RectangularPeriodic, RepeatCell}
 use Rattle.deck_words.specs.declared.keyword.Keyword.TheVariants.{SiteCoordinates, SiteTypeNames, SiteTypes}
-use Rattle.deck_words.specs.declared.kind.TheConstants.{LIST_LENGTH, ROW_COUNT, UNKNOWN_LATTICE}
+use Rattle.deck_words.specs.declared.kind.TheConstants.{ROW_COUNT, UNKNOWN_LATTICE}
 use Rattle.deck_words.specs.declared.table.BlockForm.{BlockForm}
 use Rattle.deck_words.specs.declared.table.BlockForm.TheVariants.{DefaultChoice, PeriodicCell, Explicit}
 use Rattle.lattice_cell.specs.Default.{default_lattice}
@@ -25,14 +28,12 @@ use Rattle.lattice_cell.specs.declared.expand.DefaultLattice.TheVariants.{Hexago
 use Rattle.lattice_core.specs.Lattice.{Lattice}
 use Rattle.lattice_deck.specs.Coordinates.{coordinates_fault}
 use Rattle.lattice_deck.specs.Joins.{join_from, joins_on}
-use Rattle.lattice_deck.specs.Lines.{count_on, fault_in, required}
 use Rattle.lattice_deck.specs.Sizes.{default_on, repeats_on}
 use Rattle.lattice_deck.specs.declared.joins.JoinRow.{JoinRow}
 use Rattle.lattice_deck.specs.declared.part.LatticePart.{LatticePart}
 use Rattle.lattice_deck.specs.declared.sizes.Sizes.{Sizes}
-use Rattle.lattice_deck.specs.declared.ranges.TheConstants.{ANY_WHOLE, SITE_COUNT, TYPE_COUNT}
+use Rattle.lattice_deck.specs.declared.ranges.TheConstants.{SITE_COUNT, TYPE_COUNT}
 use Rattle.site_rows.specs.Listed.{listed_lattice}
-use Rattle.site_rows.specs.Readings.{earliest, fault_of}
 use Rattle.site_rows.specs.RowFaults.{site_rows}
 use Rattle.site_rows.specs.SiteRows.{SiteRow}
 use Rattle.site_rows.specs.TypeWords.{type_of}
@@ -67,11 +68,11 @@ default_part block =
 
 -- how many sites a cell or a lattice has
 abbrev pub sites_in : Keyword → BlockLines → Result ℕ LineFault
-sites_in keyword block = required keyword block (count_on SITE_COUNT)
+sites_in keyword block = required keyword block (value_on (whole_in SITE_COUNT))
 
 -- how many site types there are
 abbrev pub types_in : BlockLines → Result ℕ LineFault
-types_in block = required NSiteTypes block (count_on TYPE_COUNT)
+types_in block = required NSiteTypes block (value_on (whole_in TYPE_COUNT))
 
 -- the names on a line, of which there should be so many
 abbrev pub names_line : Option ℕ → ItemLines → Result (List (List ℕ)) LineFault
@@ -83,9 +84,7 @@ type_names block = with_fault (fault_of (types_in block)) (required SiteTypeName
 
 -- the type words of the sites of a cell
 abbrev pub type_words : Option ℕ → BlockLines → Result (List NameWord) LineFault
-type_words sites block =
-    required SiteTypes block
-    (λ item. with_fault (fault_if (has_other_length sites (length (arguments_of item.line))) item.line.number LIST_LENGTH) (Ok (words_on item)))
+type_words sites block = required SiteTypes block (λ item. words_on sites item.line.number (names_of_line item))
 
 -- the repeats of a cell
 abbrev pub cell_repeats : BlockLines → Result (ℕ × ℕ) LineFault
@@ -131,7 +130,7 @@ listed_rows sites block = required LatticeStructure block (listed_on sites)
 
 -- the fault of the word of an explicit lattice that is used for nothing
 abbrev pub listed_unused : BlockLines → Option LineFault
-listed_unused block = fault_in MaxCoord block (λ item. fault_of (count_on ANY_WHOLE item))
+listed_unused block = fault_in MaxCoord block (λ item. fault_of (value_on (whole_in ANY_WHOLE) item))
 
 -- the values of an explicit lattice, by its number of sites, type names and rows
 abbrev pub listed_values : ℕ × (List (List ℕ) × List SiteRow) → LatticeValues

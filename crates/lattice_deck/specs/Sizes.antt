@@ -5,13 +5,11 @@ use Rattle.deck_shape.specs.Blocks.{ItemLines}
 use Rattle.deck_shape.specs.WordLines.{words_of}
 use Rattle.deck_values.specs.Lists.{fault_if}
 use Rattle.deck_values.specs.Numbers.{any_decimal, whole_in}
-use Rattle.deck_words.specs.Faults.{at_line, both, with_fault}
+use Rattle.deck_words.specs.Faults.{at_line, both, fault_of, when_read, with_fault}
 use Rattle.deck_words.specs.declared.fault.LineFault.{LineFault}
 use Rattle.deck_words.specs.declared.kind.TheConstants.{ARGUMENT_COUNT, SELF_NEIGHBOUR, TOO_MANY_SITES}
-use Rattle.lattice_deck.specs.Lines.{when_read}
 use Rattle.lattice_deck.specs.declared.ranges.TheConstants.{REPEAT}
 use Rattle.lattice_deck.specs.declared.sizes.Sizes.{Sizes}
-use Rattle.site_rows.specs.Readings.{fault_of}
 
 -- the repeats in the two directions, each at least 1
 abbrev pub two_repeats : ℕ → List (List ℕ) → Result (ℕ × ℕ) LineFault

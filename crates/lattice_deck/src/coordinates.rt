@@ -1,17 +1,15 @@
 ghost use Rattle.std.specs.Prelude.{◌≡◌, map};
 ghost use Rattle.dec_text.specs.Spans.{bytes_at, line_at};
+ghost use Rattle.deck_shape.specs.BlockValues.{fault_in};
 ghost use Rattle.deck_shape.specs.Blocks.{block_at, item_at};
+ghost use Rattle.deck_values.specs.Readings.{least};
 ghost use Rattle.lattice_deck.specs.Coordinates.{as_row, coordinates_fault, row_fault, two_decimals};
-ghost use Rattle.lattice_deck.specs.Lines.{fault_in};
-ghost use Rattle.site_rows.specs.Readings.{least};
 
-use crate::lines::fault_of;
 use dec_text::{Decimal, Line, Span};
 use deck_shape::{Block, Item, Keyword};
-use deck_values::{any_decimal, fault_if, has_other_length};
+use deck_values::{any_decimal, fault_if, has_other_length, row_words};
 use deck_words::kind::{NOT_NUMBER, ROW_COUNT, ROW_FORM};
-use deck_words::{LineFault, at_line, both};
-use site_rows::{earliest, row_words};
+use deck_words::{LineFault, at_line, both, earliest, fault_of};
 
 /// The two decimals of a row.
 fn two_decimals(line: u32, bytes: &[u8], words: &[Span]) -> Result<(Decimal, Decimal), LineFault>

@@ -1,25 +1,24 @@
 ghost use Rattle.std.specs.Prelude.{◌≡◌, ◌∷◌, ◌==◌, ◌&&◌, ◌≤◌, [], All, IfOk, IfSome, map};
 ghost use Rattle.dec_text.specs.Spans.{bytes_at, line_at};
+ghost use Rattle.deck_shape.specs.BlockValues.{required};
 ghost use Rattle.deck_shape.specs.Blocks.{block_at, item_at};
+ghost use Rattle.deck_values.specs.Readings.{least, least_fault, values_of};
 ghost use Rattle.deck_words.specs.Faults.{value_map};
 ghost use Rattle.kmc_base.specs.declared.limits.TheConstants.{MAX_SITES};
 ghost use Rattle.lattice_cell.specs.Cells.{IsInCell, displaced};
 ghost use Rattle.lattice_deck.specs.Ends.{AreEnds, HasEnds};
 ghost use Rattle.lattice_deck.specs.Joins.{crowd_fault, crowds, has_bad_end, itself_fault, join_from, join_of, join_row, joins_itself, joins_on, leads_back, sound_joins, toward_of, with_ends};
-ghost use Rattle.lattice_deck.specs.Lines.{required};
 ghost use Rattle.lattice_deck.specs.Sizes.{AreRepeats, IsSizes};
-ghost use Rattle.site_rows.specs.Readings.{least, least_fault, values_of};
 
-use crate::lines::missing_word;
 use crate::sizes::Sizes;
 use dec_text::{Line, Span};
 use deck_shape::{Block, Item, Keyword};
-use deck_values::fault_if;
+use deck_values::{Readings, edge_of, fault_if, or_form_fault, row_words, with_reading};
 use deck_words::kind::{BAD_EDGE, SELF_NEIGHBOUR, TOO_MANY_NEIGHBOURS};
-use deck_words::{LineFault, with_fault};
+use deck_words::{LineFault, earliest, with_fault};
 use kmc_base::OutOfMemory;
 use lattice_cell::{Join, Toward, is_crowded};
-use site_rows::{Readings, earliest, edge_of, is_no_site, or_form_fault, row_words, with_reading};
+use site_rows::is_no_site;
 use std::alloc::Global;
 
 /// A row of `neighboring_structure`: the two sites of the cell, from 1, and the cell of the second.
@@ -274,6 +273,6 @@ pub(crate) fn cell_joins(
 {
     match block.item(bytes, Keyword::NeighboringStructure) {
         Some(item) => joins_on(alloc, sizes, bytes, item),
-        None => Ok(Err(missing_word(block))),
+        None => Ok(Err(block.missing_word())),
     }
 }

@@ -10,7 +10,6 @@
 mod coordinates;
 mod graphs;
 mod joins;
-mod lines;
 mod names;
 mod part;
 mod ranges;
@@ -20,6 +19,6 @@ mod types;
 mod values;
 
 pub use part::LatticePart;
-pub use ranges::{ANY_WHOLE, REPEAT, SITE_COUNT, TYPE_COUNT};
+pub use ranges::{REPEAT, SITE_COUNT, TYPE_COUNT};
 pub use reader::read;
 pub use types::unknown_type;

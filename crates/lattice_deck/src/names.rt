@@ -1,18 +1,16 @@
 ghost use Rattle.std.specs.Prelude.{◌≡◌, IfOk, map};
 ghost use Rattle.dec_text.specs.Spans.{bytes_at};
+ghost use Rattle.deck_shape.specs.BlockValues.{required};
 ghost use Rattle.deck_shape.specs.Blocks.{block_at, item_at};
 ghost use Rattle.deck_shape.specs.Names.{name_at};
 ghost use Rattle.deck_words.specs.Faults.{value_map};
-ghost use Rattle.lattice_deck.specs.Lines.{required};
-ghost use Rattle.lattice_deck.specs.Parts.{names_line, type_names, type_words};
+ghost use Rattle.lattice_deck.specs.Parts.{names_line, type_names, type_words, types_in};
 
-use crate::lines::{fault_of, missing_word, number_in};
 use crate::ranges::TYPE_COUNT;
 use dec_text::Span;
 use deck_shape::{Block, Item, Keyword, Name};
-use deck_values::{fault_if, has_other_length, names_on};
-use deck_words::kind::LIST_LENGTH;
-use deck_words::{LineFault, with_fault};
+use deck_values::{names_on, words_on};
+use deck_words::{LineFault, fault_of, with_fault};
 use kmc_base::OutOfMemory;
 use std::alloc::Global;
 
@@ -54,8 +52,16 @@ fn listed_names(
 {
     match block.item(bytes, Keyword::SiteTypeNames) {
         Some(item) => names_line(alloc, bytes, count, item),
-        None => Ok(Err(missing_word(block))),
+        None => Ok(Err(block.missing_word())),
     }
+}
+
+/// How many site types there are.
+fn types_in(bytes: &[u8], block: &Block) -> Result<u64, LineFault>
+    ensures { result ≡ types_in (block_at bytes.now block.now) }
+{
+    let absent = Err(block.missing_word());
+    block.value_or(bytes, Keyword::NSiteTypes, &TYPE_COUNT, absent)
 }
 
 /// The names of the site types, which differ.
@@ -66,7 +72,7 @@ pub(crate) fn type_names(
 ) -> Result<Result<Vec<Vec<u8>>, LineFault>, OutOfMemory>
     ensures { IfOk result (λ names. value_map (λ ns. map (λ name. name.items) ns.items) names ≡ type_names (block_at bytes.now block.now)) }
 {
-    let types = number_in(block, bytes, Keyword::NSiteTypes, TYPE_COUNT);
+    let types = types_in(bytes, block);
     let names = listed_names(alloc, bytes, block, types.ok())?;
     Ok(with_fault(fault_of(types), names))
 }
@@ -81,12 +87,7 @@ pub(crate) fn type_words(
     ensures { IfOk result (λ words. value_map (λ ws. map (name_at bytes.now) ws.items) words ≡ type_words sites (block_at bytes.now block.now)) }
 {
     let Some(item) = block.item(bytes, Keyword::SiteTypes) else {
-        return Ok(Err(missing_word(block)));
+        return Ok(Err(block.missing_word()));
     };
-    let words = block.names_in(alloc, bytes, Keyword::SiteTypes)?;
-    let other_length = has_other_length(sites, item.arguments().len());
-    Ok(with_fault(
-        fault_if(other_length, item.line.number, LIST_LENGTH),
-        Ok(words),
-    ))
+    Ok(words_on(sites, item.line.number, item.names(alloc)?))
 }

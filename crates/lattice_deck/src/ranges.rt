@@ -21,9 +21,3 @@ pub const REPEAT: WholeRange = WholeRange {
     least: 1,
     most: 18_446_744_073_709_551_615,
 };
-
-/// A whole number that is used for nothing.
-pub const ANY_WHOLE: WholeRange = WholeRange {
-    least: 0,
-    most: 18_446_744_073_709_551_615,
-};

@@ -1,8 +1,9 @@
-ghost use Rattle.std.specs.Prelude.{◌≡◌, IfErr, IfOk, Ok};
+ghost use Rattle.std.specs.Prelude.{◌≡◌, ◌≤◌, IfErr, IfOk, Ok, length};
 ghost use Rattle.deck_shape.specs.Blocks.{block_at};
 ghost use Rattle.deck_shape.specs.Shapes.{IsFaultOf};
 ghost use Rattle.kmc_base.specs.declared.ids.FileId.TheVariants.{Lattice};
 ghost use Rattle.lattice_deck.specs.Parts.{part_of, values_at};
+ghost use Rattle.site_rows.specs.declared.type_word.TheConstants.{MAX_SITE_TYPES};
 
 use crate::part::LatticePart;
 use crate::values::part_of;
@@ -32,6 +33,7 @@ fn read_block(alloc: Global, bytes: &[u8], block: &Block) -> Result<LatticePart,
 /// where that number has none itself. A type word that is no type is no fault here: its site has type 0 in the graph.
 pub fn read(alloc: Global, bytes: &[u8], shape: &Shape) -> Result<LatticePart, DeckFault>
     ensures values { IfOk result (λ part. part_of (block_at bytes.now shape.now.block) ≡ Ok (values_at bytes.now part)) }
+    ensures few_types { IfOk result (λ part. length part.type_names ≤ MAX_SITE_TYPES) }
     ensures fault { IfErr result (IsFaultOf Lattice (part_of (block_at bytes.now shape.now.block))) }
 {
     read_block(alloc, bytes, &shape.block)

@@ -1,16 +1,16 @@
 ghost use Rattle.std.specs.Prelude.{◌≡◌, ◌*◌, map, nat_lt};
 ghost use Rattle.dec_text.specs.Spans.{bytes_at};
+ghost use Rattle.deck_shape.specs.BlockValues.{required};
 ghost use Rattle.deck_shape.specs.Blocks.{block_at, item_at};
-ghost use Rattle.lattice_deck.specs.Lines.{required, when_read};
+ghost use Rattle.deck_words.specs.Faults.{when_read};
 ghost use Rattle.lattice_deck.specs.Sizes.{default_on, default_repeats, gives_too_many, is_narrow, repeats_on, two_repeats, wide_enough, within_limit};
 
-use crate::lines::{fault_of, missing_word};
 use crate::ranges::REPEAT;
 use dec_text::Span;
 use deck_shape::{Block, Item, Keyword};
 use deck_values::{any_decimal, fault_if, whole_in};
 use deck_words::kind::{ARGUMENT_COUNT, SELF_NEIGHBOUR, TOO_MANY_SITES};
-use deck_words::{LineFault, at_line, both, with_fault};
+use deck_words::{LineFault, at_line, both, fault_of, with_fault};
 use kmc_base::MAX_SITES;
 
 /// The numbers of a periodic cell that other lines depend on; `None` where the line that states one has a fault.
@@ -88,7 +88,7 @@ pub(crate) fn cell_repeats(
 {
     match block.item(bytes, Keyword::RepeatCell) {
         Some(item) => repeats_on(sites, bytes, item),
-        None => Err(missing_word(block)),
+        None => Err(block.missing_word()),
     }
 }
 

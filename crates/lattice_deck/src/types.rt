@@ -1,14 +1,13 @@
 //! Type words that are no type.
 
-ghost use Rattle.std.specs.Prelude.{◌≡◌, ◌==◌, IfOk};
+ghost use Rattle.std.specs.Prelude.{◌≡◌, ◌==◌, IfOk, map};
 ghost use Rattle.std.specs.List.{find};
 ghost use Rattle.std.specs.Option.{option_copied};
 ghost use Rattle.dec_text.specs.Spans.{bytes_at};
-ghost use Rattle.lattice_deck.specs.Parts.{values_at};
+ghost use Rattle.deck_shape.specs.Names.{name_at};
 ghost use Rattle.lattice_deck.specs.Types.{unknown_type};
 ghost use Rattle.site_rows.specs.TypeWords.{type_of};
 
-use crate::part::LatticePart;
 use deck_shape::Name;
 use deck_words::LineFault;
 use deck_words::kind::UNKNOWN_TYPE;
@@ -25,18 +24,18 @@ fn first_unknown<'a>(bytes: &[u8], index: &TypeIndex, words: &'a [Name]) -> Opti
         .find(|word| index.type_of(word.span.bytes(bytes)) == 0)
 }
 
-/// The first type word of a lattice file that is neither the number of a type, from 1, nor the name of one: a fault of its line,
-/// of the kind `UNKNOWN_TYPE`. The type words are those of `site_types` in a periodic cell, and the fourth word of each row
-/// of an explicit lattice; a default lattice has none.
+/// The first of some type words of a file that is neither the number of a type, from 1, nor one of these names: a fault of
+/// its line, of the kind `UNKNOWN_TYPE`. The names are those of the types of a lattice file, in order, and the bytes are
+/// those of the file of the words.
 pub fn unknown_type(
     alloc: Global,
     bytes: &[u8],
-    part: &LatticePart,
+    type_names: &[Vec<u8>],
+    words: &[Name],
 ) -> Result<Option<LineFault>, OutOfMemory>
-    ensures { IfOk result (λ fault. fault ≡ unknown_type (values_at bytes.now part.now).type_names (values_at bytes.now part.now).type_words) }
+    ensures { IfOk result (λ fault. fault ≡ unknown_type (map (λ name. name.items) type_names.now) (map (name_at bytes.now) words.now)) }
 {
-    let index = TypeIndex::new(alloc, part.type_names.as_slice())?;
-    let words = part.type_words.as_slice();
+    let index = TypeIndex::new(alloc, type_names)?;
     match first_unknown(bytes, &index, words) {
         Some(word) => Ok(Some(LineFault {
             line: word.line,

@@ -15,18 +15,17 @@ ghost use Rattle.site_rows.specs.declared.type_word.TheConstants.{MAX_SITE_TYPES
 use crate::coordinates::coordinates_in;
 use crate::graphs::{cell_graph, default_graph, listed_graph};
 use crate::joins::{JoinRow, cell_joins};
-use crate::lines::{count_on, fault_of, missing_word, number_in};
 use crate::names::{type_names, type_words};
 use crate::part::LatticePart;
-use crate::ranges::{ANY_WHOLE, SITE_COUNT};
+use crate::ranges::SITE_COUNT;
 use crate::sizes::{Sizes, cell_repeats, default_on};
 use deck_shape::{Block, BlockForm, Item, Keyword, Name};
-use deck_values::{fault_if, has_other_length};
+use deck_values::{ANY_WHOLE, fault_if, has_other_length};
 use deck_words::kind::{ROW_COUNT, UNKNOWN_LATTICE};
-use deck_words::{LineFault, both, with_fault};
+use deck_words::{LineFault, both, earliest, fault_of, with_fault};
 use kmc_base::{OutOfMemory, Sequence};
 use lattice_cell::DefaultLattice;
-use site_rows::{ReadRow, earliest, read_rows};
+use site_rows::{ReadRow, read_rows};
 use std::alloc::Global;
 
 /// The values of a default lattice, whose one type has the name StTp1.
@@ -76,8 +75,16 @@ fn default_part(
     }
     match block.item(bytes, Keyword::HexagonalPeriodic) {
         Some(item) => named_part(alloc, DefaultLattice::Hexagonal, bytes, item),
-        None => Ok(Err(missing_word(block))),
+        None => Ok(Err(block.missing_word())),
     }
+}
+
+/// How many sites a cell or a lattice has.
+fn sites_in(bytes: &[u8], block: &Block, keyword: Keyword) -> Result<u64, LineFault>
+    ensures { result ≡ sites_in keyword (block_at bytes.now block.now) }
+{
+    let absent = Err(block.missing_word());
+    block.value_or(bytes, keyword, &SITE_COUNT, absent)
 }
 
 /// The earliest fault of the words of a cell that are used for nothing.
@@ -123,7 +130,7 @@ fn cell_part(
 ) -> Result<Result<LatticePart, LineFault>, OutOfMemory>
     ensures { IfOk result (λ part. value_map (values_at bytes.now) part ≡ cell_part (block_at bytes.now block.now)) }
 {
-    let sites = number_in(block, bytes, Keyword::NCellSites, SITE_COUNT);
+    let sites = sites_in(bytes, block, Keyword::NCellSites);
     let repeats = cell_repeats(block, bytes, sites.ok());
     let sizes = Sizes {
         sites: sites.ok(),
@@ -168,7 +175,7 @@ fn listed_rows(
 {
     match block.item(bytes, Keyword::LatticeStructure) {
         Some(item) => rows_on(alloc, bytes, sites, item),
-        None => Ok(Err(missing_word(block))),
+        None => Ok(Err(block.missing_word())),
     }
 }
 
@@ -177,7 +184,7 @@ fn listed_unused(bytes: &[u8], block: &Block) -> Option<LineFault>
     ensures { result ≡ listed_unused (block_at bytes.now block.now) }
 {
     match block.item(bytes, Keyword::MaxCoord) {
-        Some(item) => fault_of(count_on(ANY_WHOLE, bytes, item)),
+        Some(item) => fault_of(item.value(bytes, &ANY_WHOLE)),
         None => None,
     }
 }
@@ -204,7 +211,7 @@ fn listed_part(
 ) -> Result<Result<LatticePart, LineFault>, OutOfMemory>
     ensures { IfOk result (λ part. value_map (values_at bytes.now) part ≡ listed_part (block_at bytes.now block.now)) }
 {
-    let sites = number_in(block, bytes, Keyword::NSites, SITE_COUNT);
+    let sites = sites_in(bytes, block, Keyword::NSites);
     let names = type_names(alloc, bytes, block)?;
     let rows = listed_rows(alloc, bytes, sites.ok(), block)?;
     let read = both(sites, both(names, rows));

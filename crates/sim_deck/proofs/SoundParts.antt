@@ -13,22 +13,24 @@ use Rattle.deck_shape.specs.LineWords.{arguments_of}
 use Rattle.deck_shape.specs.Names.{NameWord, on_line}
 use Rattle.deck_shape.specs.WordLines.{words_of}
 use Rattle.deck_values.proofs.Ranges.{scaled-holds, up_to-holds, whole-holds}
-use Rattle.deck_values.proofs.Values.{AreSo, AreSpecies, absent_list-holds, both-holds, list_on-holds, species_on-holds, stated-holds}
-use Rattle.deck_values.proofs.Values.{value_map-holds, with_fault-holds}
+use Rattle.deck_values.proofs.Values.{AreSo, AreSpecies, absent_list-holds, list_on-holds, species_on-holds, stated-holds}
+use Rattle.deck_words.proofs.HeldValues.{both-holds, value_map-holds, with_fault-holds}
 use Rattle.deck_values.specs.Lists.{absent_list, list_on}
 use Rattle.deck_values.specs.Names.{species_on}
 use Rattle.deck_values.specs.Numbers.{is_up_to, scaled_in, up_to, whole_in}
+use Rattle.deck_values.specs.declared.number.TheConstants.{ANY_WHOLE, ENERGY}
 use Rattle.deck_words.specs.Faults.{both, with_fault}
 use Rattle.deck_words.specs.declared.keyword.Keyword.{Keyword}
 use Rattle.deck_words.specs.declared.keyword.Keyword.TheVariants.{GasEnergies, GasMolarFracs, GasSpecsNames, NGasSpecies}
 use Rattle.deck_words.specs.declared.keyword.Keyword.TheVariants.{NSurfSpecies, SurfSpecsDent, SurfSpecsNames, WallTime}
 use Rattle.kmc_base.specs.declared.limits.TheConstants.{MAX_DENTATES, MAX_ENERGY, MAX_SPECIES}
-use Rattle.sim_deck.proofs.SoundPlans.{AreConditions, conditions-hold, line_value_or-holds, word-holds}
+use Rattle.deck_shape.proofs.BlockValues.{line_value_or-holds, word-holds}
+use Rattle.sim_deck.proofs.SoundPlans.{AreConditions, conditions-hold}
 use Rattle.sim_deck.specs.Soundness.{AreNames, IsSoundPart}
 use Rattle.sim_deck.specs.Species.{GasValues, SurfaceValues, count_in, gas_in, gas_lists, names_in, names_on, numbers_in, surface_in}
 use Rattle.sim_deck.specs.Species.{surface_lists, weights_in}
 use Rattle.sim_deck.specs.Values.{conditions_in, limit_in, part_of}
-use Rattle.sim_deck.specs.declared.ranges.TheConstants.{ANY_WHOLE, DENTATES, ENERGY, FRACTION, SPECIES_COUNT}
+use Rattle.sim_deck.specs.declared.ranges.TheConstants.{DENTATES, FRACTION, SPECIES_COUNT}
 
 abbrev bytes_in : List NameWord → List (List ℕ)
 bytes_in names = map (λ name. name.word.bytes) names

@@ -1,55 +1,29 @@
 -- the plan of a run that is read, and its conditions, are in their ranges
 use Rattle.std.proofs.Common.{◌≡◌, ◌≤◌, ◌<◌, ◌^◌, arith, ℕ, true, Bool, false, List, [], ◌∷◌, IfOk, IfSome, Option, None, Some, Result, Ok}
 use Rattle.std.proofs.Common.{codes, unwrap_or, if◌then◌else◌}
-use Rattle.std.specs.List.{find}
-use Rattle.std.specs.Option.{option_map_or}
 use Rattle.std.proofs.lemmas.Int.{ints}
 use Rattle.std.proofs.lemmas.Result.{IfOk-weaker}
 use Rattle.dec_text.specs.Decimals.{Scientific}
-use Rattle.deck_shape.specs.BlockValues.{line_value_or, missing_word, value_or}
-use Rattle.deck_shape.specs.Blocks.{BlockLines, ItemLines, has_keyword}
-use Rattle.deck_shape.specs.WordLines.{words_of}
+use Rattle.deck_shape.proofs.BlockValues.{value_or-holds, word-holds}
+use Rattle.deck_shape.specs.BlockValues.{missing_word}
+use Rattle.deck_shape.specs.Blocks.{BlockLines}
 use Rattle.deck_values.proofs.Ranges.{amount-holds, up_to-holds, whole-holds}
-use Rattle.deck_values.proofs.Values.{at_line-holds, both-holds, one-holds, value_map-holds}
+use Rattle.deck_words.proofs.HeldValues.{both-holds, value_map-holds}
 use Rattle.deck_values.specs.Numbers.{amount_in, is_up_to, up_to, whole_in}
-use Rattle.deck_values.specs.Words.{one}
+use Rattle.deck_values.specs.declared.number.TheConstants.{ANY_WHOLE}
 use Rattle.deck_words.specs.Faults.{both}
 use Rattle.deck_words.specs.Tables.{same_word}
-use Rattle.deck_words.specs.declared.fault.LineFault.{LineFault}
 use Rattle.deck_words.specs.declared.keyword.Keyword.{Keyword}
 use Rattle.deck_words.specs.declared.keyword.Keyword.TheVariants.{MaxSteps, MaxTime, Pressure, ProcessStatistics, RandomSeed}
 use Rattle.deck_words.specs.declared.keyword.Keyword.TheVariants.{Snapshots, SpeciesNumbers, Temperature}
 use Rattle.kmc_base.specs.declared.limits.TheConstants.{END_OF_TIME, MAX_EVENTS}
 use Rattle.sim_deck.specs.Samplings.{is_on, sampling_of}
-use Rattle.sim_deck.specs.Soundness.{IsPeriod, IsSoundPlan}
+use Rattle.run_plan.specs.Soundness.{IsPeriod, IsSoundPlan}
 use Rattle.sim_deck.specs.Values.{conditions_in, limit_in, limits_in, or_infinity, plan_in, pressure_in, sampling_in, samplings_in}
 use Rattle.sim_deck.specs.Values.{seed_in, temperature_in}
-use Rattle.sim_deck.specs.declared.part.Plan.{Plan}
-use Rattle.sim_deck.specs.declared.part.Sampling.TheVariants.{Off, Event, Time}
-use Rattle.sim_deck.specs.declared.ranges.TheConstants.{ANY_WHOLE, EVENT_LIMIT, EVENT_PERIOD, PRESSURE, TEMPERATURE, TIME_LIMIT, TIME_PERIOD}
-
-item-holds : {X : Type 0} (P : X → Type 0) (absent : Result X LineFault) (read : ItemLines → Result X LineFault) (item : Option ItemLines)
-    → IfOk absent P → ((it : ItemLines) → IfOk (read it) P) → IfOk (option_map_or read item absent) P
-item-holds P absent read None p q = p
-item-holds P absent read (Some item) p q = q item
-
--- what holds of the value of each line, and of that of none
-pub line_value_or-holds : {X : Type 0} (P : X → Type 0) (absent : Result X LineFault) (read : ItemLines → Result X LineFault)
-    (keyword : Keyword) (items : List ItemLines) → IfOk absent P → ((item : ItemLines) → IfOk (read item) P)
-    → IfOk (line_value_or absent read keyword items) P
-line_value_or-holds P absent read keyword items p q = item-holds P absent read (find (has_keyword keyword) items) p q
-
-pub value_or-holds : {X : Type 0} (P : X → Type 0) (absent : Result X LineFault) (read : List (List ℕ) → Result X ℕ)
-    (keyword : Keyword) (items : List ItemLines) → IfOk absent P → ((words : List (List ℕ)) → IfOk (read words) P)
-    → IfOk (value_or absent read keyword items) P
-value_or-holds P absent read keyword items p q =
-    line_value_or-holds P absent _ keyword items p (λ item. at_line-holds P item.line.number (read (words_of item)) (q (words_of item)))
-
--- the same of the one word behind a keyword
-pub word-holds : {X : Type 0} (P : X → Type 0) (absent : Result X LineFault) (read : List ℕ → Result X ℕ)
-    (keyword : Keyword) (items : List ItemLines) → IfOk absent P → ((word : List ℕ) → IfOk (read word) P)
-    → IfOk (value_or absent (one read) keyword items) P
-word-holds P absent read keyword items p q = value_or-holds P absent (one read) keyword items p (λ words. one-holds P read words q)
+use Rattle.run_plan.specs.declared.plan.Plan.{Plan}
+use Rattle.run_plan.specs.declared.plan.Sampling.TheVariants.{Off, Event, Time}
+use Rattle.sim_deck.specs.declared.ranges.TheConstants.{EVENT_LIMIT, EVENT_PERIOD, PRESSURE, TEMPERATURE, TIME_LIMIT, TIME_PERIOD}
 
 if-holds : {X : Type 0} (P : X → Type 0) (b : Bool) (r s : Result X ℕ) → IfOk r P → IfOk s P → IfOk (if b then r else s) P
 if-holds P true r s p q = p

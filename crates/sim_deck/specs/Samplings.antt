@@ -4,8 +4,8 @@ use Rattle.deck_values.specs.Numbers.{amount_in, whole_in}
 use Rattle.deck_words.specs.Faults.{value_map}
 use Rattle.deck_words.specs.Tables.{same_word}
 use Rattle.deck_words.specs.declared.kind.TheConstants.{BAD_CHOICE}
-use Rattle.sim_deck.specs.declared.part.Sampling.{Sampling}
-use Rattle.sim_deck.specs.declared.part.Sampling.TheVariants.{Off, Event, Time}
+use Rattle.run_plan.specs.declared.plan.Sampling.{Sampling}
+use Rattle.run_plan.specs.declared.plan.Sampling.TheVariants.{Off, Event, Time}
 use Rattle.sim_deck.specs.declared.ranges.TheConstants.{EVENT_PERIOD, TIME_PERIOD}
 
 -- two words are `on` and this one

@@ -1,28 +1,11 @@
 -- What the values of every simulation file without faults keep.
-use Rattle.std.specs.Prelude.{◌≡◌, ℕ, ◌^◌, ◌≤◌, ◌<◌, true, false, List, map, length, unsigned_abs, IfSome}
+use Rattle.std.specs.Prelude.{◌≡◌, ℕ, ◌≤◌, true, false, List, map, length, unsigned_abs}
 use Rattle.std.specs.List.{All, list_any}
 use Rattle.deck_values.specs.Names.{is_bad_name, names_repeat}
 use Rattle.deck_values.specs.Numbers.{is_up_to}
-use Rattle.kmc_base.specs.declared.limits.TheConstants.{END_OF_TIME, MAX_DENTATES, MAX_ENERGY, MAX_EVENTS, MAX_SPECIES}
+use Rattle.kmc_base.specs.declared.limits.TheConstants.{MAX_DENTATES, MAX_ENERGY, MAX_SPECIES}
+use Rattle.run_plan.specs.Soundness.{IsSoundPlan}
 use Rattle.sim_deck.specs.Values.{SimValues}
-use Rattle.sim_deck.specs.declared.part.Plan.{Plan}
-use Rattle.sim_deck.specs.declared.part.Sampling.{Sampling}
-use Rattle.sim_deck.specs.declared.part.Sampling.TheVariants.{Off, Event, Time}
-
--- a period is from 1 to 2^40 - 1 events, or from 1 to 10^30 attoseconds
-abbrev pub IsPeriod : Sampling → Type 0
-IsPeriod Off = Unit {0}
-IsPeriod (Event n) = (1 ≤ n) × (n ≤ MAX_EVENTS)
-IsPeriod (Time d) = (1 ≤ d) × (d ≤ END_OF_TIME)
-
--- the numbers of a plan are in their ranges
-pub record IsSoundPlan (plan : Plan) : Type 0 where
-  pub seed : plan.seed < 2 ^ 64
-  pub max_steps : plan.max_steps ≤ MAX_EVENTS
-  pub max_time : IfSome plan.max_time (λ t. t ≤ END_OF_TIME)
-  pub history : IsPeriod plan.history
-  pub procstat : IsPeriod plan.procstat
-  pub specnum : IsPeriod plan.specnum
 
 -- the names of a list differ, none is `*` or `&`, and there are at most 64
 pub record AreNames (names : List (List ℕ)) : Type 0 where

@@ -2,7 +2,7 @@
 use Rattle.std.specs.Prelude.{ℕ, ℤ, List, [], map, Option, Result, Ok}
 use Rattle.std.specs.Result.{result_err, result_ok}
 use Rattle.dec_text.specs.Decimals.{Scientific}
-use Rattle.deck_shape.specs.BlockValues.{line_value_or, value_or}
+use Rattle.deck_shape.specs.BlockValues.{line_value_or, one, value_or}
 use Rattle.deck_shape.specs.Blocks.{BlockLines, ItemLines}
 use Rattle.deck_shape.specs.LineWords.{arguments_of}
 use Rattle.deck_shape.specs.Names.{NameWord, on_line}
@@ -10,13 +10,13 @@ use Rattle.deck_shape.specs.WordLines.{words_of}
 use Rattle.deck_values.specs.Lists.{absent_list, list_on}
 use Rattle.deck_values.specs.Names.{species_on}
 use Rattle.deck_values.specs.Numbers.{any_decimal, scaled_in, up_to, whole_in}
-use Rattle.deck_values.specs.Words.{one}
+use Rattle.deck_values.specs.declared.number.TheConstants.{ENERGY}
 use Rattle.deck_words.specs.Faults.{both, value_map, with_fault}
 use Rattle.deck_words.specs.declared.fault.LineFault.{LineFault}
 use Rattle.deck_words.specs.declared.keyword.Keyword.{Keyword}
 use Rattle.deck_words.specs.declared.keyword.Keyword.TheVariants.{GasEnergies, GasMolarFracs, GasMolecWeights, GasSpecsNames, NGasSpecies}
 use Rattle.deck_words.specs.declared.keyword.Keyword.TheVariants.{NSurfSpecies, SurfSpecsDent, SurfSpecsNames}
-use Rattle.sim_deck.specs.declared.ranges.TheConstants.{DENTATES, ENERGY, FRACTION, SPECIES_COUNT}
+use Rattle.sim_deck.specs.declared.ranges.TheConstants.{DENTATES, FRACTION, SPECIES_COUNT}
 
 -- a number of species; 0 where the file does not state it
 abbrev pub count_in : Keyword → BlockLines → Result ℕ LineFault

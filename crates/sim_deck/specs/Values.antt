@@ -2,11 +2,11 @@
 use Rattle.std.specs.Prelude.{ℕ, ℤ, List, map, Option, None, Some, Result, Ok, if◌then◌else◌, codes, unwrap_or}
 use Rattle.std.specs.Result.{result_err}
 use Rattle.dec_text.specs.Decimals.{Scientific}
-use Rattle.deck_shape.specs.BlockValues.{missing_word, value_or}
+use Rattle.deck_shape.specs.BlockValues.{one, required, value_on, value_or}
 use Rattle.deck_shape.specs.Blocks.{BlockLines}
 use Rattle.deck_shape.specs.Names.{NameWord, name_at}
 use Rattle.deck_values.specs.Numbers.{amount_in, up_to, whole_in}
-use Rattle.deck_values.specs.Words.{one}
+use Rattle.deck_values.specs.declared.number.TheConstants.{ANY_WHOLE}
 use Rattle.deck_words.specs.Faults.{both, value_map, with_fault}
 use Rattle.deck_words.specs.Tables.{same_word}
 use Rattle.deck_words.specs.declared.fault.LineFault.{LineFault}
@@ -16,11 +16,11 @@ use Rattle.deck_words.specs.declared.keyword.Keyword.TheVariants.{Snapshots, Spe
 use Rattle.kmc_base.specs.declared.limits.TheConstants.{MAX_EVENTS}
 use Rattle.sim_deck.specs.Samplings.{sampling_of}
 use Rattle.sim_deck.specs.Species.{GasValues, SurfaceValues, gas_in, surface_in}
-use Rattle.sim_deck.specs.declared.part.Plan.{Plan}
-use Rattle.sim_deck.specs.declared.part.Sampling.{Sampling}
-use Rattle.sim_deck.specs.declared.part.Sampling.TheVariants.{Off}
+use Rattle.run_plan.specs.declared.plan.Plan.{Plan}
+use Rattle.run_plan.specs.declared.plan.Sampling.{Sampling}
+use Rattle.run_plan.specs.declared.plan.Sampling.TheVariants.{Off}
 use Rattle.sim_deck.specs.declared.part.SimPart.{SimPart}
-use Rattle.sim_deck.specs.declared.ranges.TheConstants.{ANY_WHOLE, EVENT_LIMIT, PRESSURE, TEMPERATURE, TIME_LIMIT}
+use Rattle.sim_deck.specs.declared.ranges.TheConstants.{EVENT_LIMIT, PRESSURE, TEMPERATURE, TIME_LIMIT}
 
 -- the values, with the names as words on lines
 pub record SimValues : Type 0 where
@@ -52,11 +52,11 @@ seed_in block = value_or (Ok 0) (one (whole_in ANY_WHOLE)) RandomSeed block.item
 
 -- the temperature in mK, which is written in K
 abbrev pub temperature_in : BlockLines → Result ℕ LineFault
-temperature_in block = value_or (missing_word block.end_line) (one (amount_in TEMPERATURE)) Temperature block.items
+temperature_in block = required Temperature block (value_on (amount_in TEMPERATURE))
 
 -- the pressure in bar
 abbrev pub pressure_in : BlockLines → Result Scientific LineFault
-pressure_in block = value_or (missing_word block.end_line) (one (up_to PRESSURE.power)) Pressure block.items
+pressure_in block = required Pressure block (value_on (up_to PRESSURE.power))
 
 -- a number, or the word `infinity`, which is None
 abbrev pub or_infinity : {X : Type 0} → (List ℕ → Result X ℕ) → List ℕ → Result (Option X) ℕ

@@ -2,8 +2,8 @@
 //!
 //! `read` gives exactly the values of a file of the right shape, or exactly its first fault of a value. Each value has one
 //! definition, from the words of its line to the value or the kind of its fault. The keywords and their meanings are
-//! those of the Zacros manual; the units, ranges and defaults are kmc's own. It uses deck_shape, deck_values, deck_words
-//! and dec_text.
+//! those of the Zacros manual; the units, ranges and defaults are kmc's own. It uses deck_shape, deck_values, deck_words,
+//! dec_text, kmc_base and run_plan.
 #![tactic(auto)]
 
 mod lines;
@@ -15,9 +15,9 @@ mod samplings;
 mod species;
 mod words;
 
-pub use part::{Plan, Sampling, SimPart};
+pub use part::SimPart;
 pub use ranges::{
-    ANY_WHOLE, DENTATES, ENERGY, EVENT_LIMIT, EVENT_PERIOD, FRACTION, PRESSURE, SPECIES_COUNT,
-    TEMPERATURE, TIME_LIMIT, TIME_PERIOD,
+    DENTATES, EVENT_LIMIT, EVENT_PERIOD, FRACTION, PRESSURE, SPECIES_COUNT, TEMPERATURE,
+    TIME_LIMIT, TIME_PERIOD,
 };
 pub use reader::read;

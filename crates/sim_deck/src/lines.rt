@@ -1,38 +1,19 @@
-//! The values behind the keywords of a block, each at its line.
+//! The lists behind the keywords of a block, each at its line.
 
 ghost use Rattle.std.specs.Prelude.{◌≡◌, IfOk, map};
 ghost use Rattle.dec_text.specs.Spans.{run_at};
-ghost use Rattle.deck_shape.specs.BlockValues.{value_or};
 ghost use Rattle.deck_shape.specs.Blocks.{block_at};
-ghost use Rattle.deck_shape.specs.Names.{name_at, name_of, on_line};
+ghost use Rattle.deck_shape.specs.Names.{name_at, on_line};
 ghost use Rattle.deck_values.specs.Lists.{absent_list};
-ghost use Rattle.deck_values.specs.Words.{one};
 ghost use Rattle.deck_words.specs.Faults.{value_map};
 ghost use Rattle.sim_deck.specs.Species.{list_or, names_in, numbers_in};
 
 use dec_text::Span;
-use deck_shape::{Block, Keyword, Name};
-use deck_values::{ReadWord, absent_list, list_on, one, species_on};
-use deck_words::{LineFault, at_line};
+use deck_shape::{Block, Keyword, Name, names_of};
+use deck_values::{absent_list, list_on, species_on};
+use deck_words::{LineFault, ReadWord};
 use kmc_base::OutOfMemory;
 use std::alloc::Global;
-
-/// The value of the word behind a keyword, or the other one where the keyword is absent.
-pub(crate) fn value_or<R: ReadWord>(
-    absent: Result<R::Value, LineFault>,
-    reading: &R,
-    bytes: &[u8],
-    block: &Block,
-    keyword: Keyword,
-) -> Result<R::Value, LineFault>
-    requires { R.is_usable reading.now }
-    ensures { result ≡ value_or absent (one (R.value_of reading.now)) keyword (block_at bytes.now block.now).items }
-{
-    match block.item(bytes, keyword) {
-        Some(item) => at_line(item.line.number, one(reading, bytes, item.arguments())),
-        None => absent,
-    }
-}
 
 /// The list behind a keyword, or the other one where the keyword is absent.
 pub(crate) fn list_or<R: ReadWord>(
@@ -76,17 +57,6 @@ pub(crate) fn numbers_in<R: ReadWord>(
 {
     let absent = absent_list(alloc, count, block.end_line);
     list_or(alloc, absent, reading, count, bytes, block, keyword)
-}
-
-/// The words of a line, as names.
-fn names_of(alloc: Global, words: &[Span], line: u32) -> Result<Vec<Name>, OutOfMemory>
-    ensures { IfOk result (λ names. names.items ≡ map (name_of line) words.now) }
-{
-    let mut names = Vec::new(alloc);
-    for span in words {
-        names.push(Name { span: *span, line })?;
-    }
-    Ok(names)
 }
 
 /// The names that were found on a line.

@@ -1,27 +1,24 @@
 //! The plan of a run, and its conditions.
 
 ghost use Rattle.std.specs.Prelude.{◌≡◌};
-ghost use Rattle.deck_shape.specs.BlockValues.{missing_word};
 ghost use Rattle.deck_shape.specs.Blocks.{block_at};
 ghost use Rattle.sim_deck.specs.Values.{conditions_in, limit_in, limits_in, plan_in, pressure_in, sampling_in, samplings_in, seed_in, temperature_in};
 
-use crate::lines::value_or;
-use crate::part::{Plan, Sampling};
-use crate::ranges::{ANY_WHOLE, EVENT_LIMIT, PRESSURE, TIME_LIMIT};
+use crate::ranges::{EVENT_LIMIT, PRESSURE, TIME_LIMIT};
 use crate::samplings::sampling_of;
 use crate::words::{OrInfinity, Temperature};
 use dec_text::Decimal;
 use deck_shape::{Block, Keyword};
-use deck_values::{Amount, ReadWord};
-use deck_words::kind::MISSING_WORD;
-use deck_words::{LineFault, at_line, both};
+use deck_values::{ANY_WHOLE, Amount};
+use deck_words::{LineFault, ReadWord, at_line, both};
 use kmc_base::MAX_EVENTS;
+use run_plan::{Plan, Sampling};
 
 /// The random seed.
 fn seed_in(bytes: &[u8], block: &Block) -> Result<u64, LineFault>
     ensures { result ≡ seed_in (block_at bytes.now block.now) }
 {
-    value_or(Ok(0), &ANY_WHOLE, bytes, block, Keyword::RandomSeed)
+    block.value_or(bytes, Keyword::RandomSeed, &ANY_WHOLE, Ok(0))
 }
 
 /// A limit, if there is one.
@@ -34,7 +31,7 @@ pub(crate) fn limit_in<R: ReadWord + Drop>(
     requires { R.is_usable number }
     ensures { result ≡ limit_in (R.value_of number) keyword (block_at bytes.now block.now) }
 {
-    value_or(Ok(None), &OrInfinity { number }, bytes, block, keyword)
+    block.value_or(bytes, keyword, &OrInfinity { number }, Ok(None))
 }
 
 /// When an output is sampled.
@@ -84,30 +81,20 @@ fn plan_in(bytes: &[u8], block: &Block) -> Result<Plan, LineFault>
     })
 }
 
-/// A required word is absent.
-fn missing_word<T>(block: &Block) -> Result<T, LineFault>
-    ensures { result ≡ missing_word block.now.end_line }
-{
-    Err(LineFault {
-        line: block.end_line,
-        kind: MISSING_WORD,
-    })
-}
-
 /// The temperature, in mK.
 fn temperature_in(bytes: &[u8], block: &Block) -> Result<u32, LineFault>
     ensures { result ≡ temperature_in (block_at bytes.now block.now) }
 {
-    let absent = missing_word(block);
-    value_or(absent, &Temperature, bytes, block, Keyword::Temperature)
+    let absent = Err(block.missing_word());
+    block.value_or(bytes, Keyword::Temperature, &Temperature, absent)
 }
 
 /// The pressure, in bar.
 fn pressure_in(bytes: &[u8], block: &Block) -> Result<Decimal, LineFault>
     ensures { result ≡ pressure_in (block_at bytes.now block.now) }
 {
-    let absent = missing_word(block);
-    value_or(absent, &PRESSURE, bytes, block, Keyword::Pressure)
+    let absent = Err(block.missing_word());
+    block.value_or(bytes, Keyword::Pressure, &PRESSURE, absent)
 }
 
 /// The plan of a run, and the temperature and the pressure.

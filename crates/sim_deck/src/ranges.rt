@@ -1,7 +1,8 @@
-//! The ranges of the numbers of the simulation file, said once: the definitions and the reader both go by them.
+//! The ranges of the numbers of the simulation file, said once: the definitions and the reader both go by them. Those
+//! that other files have too are in deck_values.
 
 use deck_values::{ScaledRange, UpTo, WholeRange};
-use kmc_base::{END_OF_TIME, MAX_DENTATES, MAX_ENERGY, MAX_EVENTS, MAX_SPECIES};
+use kmc_base::{END_OF_TIME, MAX_DENTATES, MAX_EVENTS, MAX_SPECIES};
 
 /// A number of species.
 pub const SPECIES_COUNT: WholeRange = WholeRange {
@@ -19,13 +20,6 @@ pub const TEMPERATURE: ScaledRange = ScaledRange {
 /// A pressure in bar, from 0 to 10^9.
 pub const PRESSURE: UpTo = UpTo { power: 9 };
 
-/// An energy in eV, kept in neV (10^-9 eV): of a magnitude of at most 1,000 eV.
-pub const ENERGY: ScaledRange = ScaledRange {
-    places: 9,
-    least: -MAX_ENERGY,
-    most: MAX_ENERGY,
-};
-
 /// A molar fraction, from 0 to 1.
 pub const FRACTION: UpTo = UpTo { power: 0 };
 
@@ -33,12 +27,6 @@ pub const FRACTION: UpTo = UpTo { power: 0 };
 pub const DENTATES: WholeRange = WholeRange {
     least: 1,
     most: MAX_DENTATES as u64,
-};
-
-/// A random seed, or a wall time: any whole number below 2^64.
-pub const ANY_WHOLE: WholeRange = WholeRange {
-    least: 0,
-    most: 18_446_744_073_709_551_615,
 };
 
 /// The argument of `max_steps`.

@@ -7,14 +7,15 @@ ghost use Rattle.sim_deck.specs.Soundness.{IsSoundPart};
 ghost use Rattle.sim_deck.specs.Values.{part_of, part_with, values_at};
 ghost use Rattle.sim_deck.specs.Views.{gas_at, surface_at};
 
-use crate::part::{Plan, SimPart};
+use crate::part::SimPart;
 use crate::plan::{conditions_in, limit_in};
-use crate::ranges::ANY_WHOLE;
 use crate::species::{Gas, Surface, gas_in, surface_in};
 use dec_text::Decimal;
 use deck_shape::{Block, DeckFault, Fault, Keyword, Shape};
+use deck_values::ANY_WHOLE;
 use deck_words::{LineFault, both, with_fault};
 use kmc_base::{FileId, OutOfMemory, Sequence};
+use run_plan::Plan;
 use std::alloc::Global;
 
 /// The part of a deck that has these values.

@@ -2,11 +2,11 @@ ghost use Rattle.std.specs.Prelude.{◌≡◌, ◌∷◌, [], map};
 ghost use Rattle.dec_text.specs.Spans.{bytes_at};
 ghost use Rattle.sim_deck.specs.Samplings.{is_on, sampling_of};
 
-use crate::part::Sampling;
 use crate::ranges::{EVENT_PERIOD, TIME_PERIOD};
 use dec_text::Span;
 use deck_values::{amount_in, whole_in};
 use deck_words::kind::BAD_CHOICE;
+use run_plan::Sampling;
 
 /// Two words are `on` and this one.
 fn is_on(bytes: &[u8], what: &[u8], first: Span, second: Span) -> bool

@@ -9,7 +9,7 @@ ghost use Rattle.std.specs.Result.{result_err};
 ghost use Rattle.sim_deck.specs.Species.{count_in, gas_in, gas_lists, gas_with, surface_in, surface_lists, surface_with, weights_in};
 ghost use Rattle.sim_deck.specs.Views.{gas_at, surface_at};
 
-use crate::lines::{list_or, names_in, numbers_in, value_or};
+use crate::lines::{list_or, names_in, numbers_in};
 use crate::ranges::{FRACTION, SPECIES_COUNT};
 use crate::words::{Dentates, Energy};
 use dec_text::Decimal;
@@ -38,7 +38,7 @@ pub(crate) struct Surface {
 fn count_in(bytes: &[u8], block: &Block, keyword: Keyword) -> Result<u64, LineFault>
     ensures { result ≡ count_in keyword (block_at bytes.now block.now) }
 {
-    value_or(Ok(0), &SPECIES_COUNT, bytes, block, keyword)
+    block.value_or(bytes, keyword, &SPECIES_COUNT, Ok(0))
 }
 
 /// The gas species of these lists.

@@ -2,10 +2,12 @@
 
 ghost use Rattle.deck_values.specs.Numbers.{amount_in, scaled_in, whole_in};
 ghost use Rattle.sim_deck.specs.Values.{or_infinity};
-ghost use Rattle.sim_deck.specs.declared.ranges.TheConstants.{DENTATES as DENTATE_RANGE, ENERGY as ENERGY_RANGE, TEMPERATURE as TEMPERATURE_RANGE};
+ghost use Rattle.deck_values.specs.declared.number.TheConstants.{ENERGY as ENERGY_RANGE};
+ghost use Rattle.sim_deck.specs.declared.ranges.TheConstants.{DENTATES as DENTATE_RANGE, TEMPERATURE as TEMPERATURE_RANGE};
 
-use crate::ranges::{DENTATES, ENERGY, TEMPERATURE};
-use deck_values::{ReadWord, amount_in, scaled_in, whole_in};
+use crate::ranges::{DENTATES, TEMPERATURE};
+use deck_values::{ENERGY, amount_in, scaled_in, whole_in};
+use deck_words::ReadWord;
 
 /// A temperature, in mK.
 pub(crate) struct Temperature;

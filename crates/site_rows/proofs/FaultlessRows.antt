@@ -11,11 +11,11 @@ use Rattle.deck_words.specs.declared.kind.TheConstants.{BAD_SITE, ONE_SIDED, OUT
 use Rattle.deck_words.specs.declared.kind.TheConstants.{TOO_MANY_NEIGHBOURS}
 use Rattle.lattice_core.specs.SiteList.{is_listed}
 use Rattle.lattice_core.specs.declared.graph.TheConstants.{MAX_NEIGHBOURS}
-use Rattle.site_rows.specs.Words.{is_no_site}
 use Rattle.site_rows.specs.Placing.{IsSite, NamesSites}
 use Rattle.site_rows.specs.RowFaults.{each_once, fault_below, has_bad_site, is_one_sided, row_fault}
+use Rattle.site_rows.specs.SiteNumbers.{is_no_site}
 use Rattle.site_rows.specs.SiteRows.{SiteRow, row_for}
-use Rattle.site_rows.proofs.EarliestFaults.{none_earliest, none_if}
+use Rattle.deck_values.proofs.EarliestFaults.{none_earliest, none_if}
 use Rattle.site_rows.proofs.RowLookups.{none-from_test}
 
 -- the row at a place has no fault

@@ -1,4 +1,3 @@
-pub mod EarliestFaults
 mod FaultlessRows
 mod NumberLists
 mod Placed

@@ -1,15 +1,11 @@
 -- the words of a row, one by one
 use Rattle.std.proofs.Common.{◌≡◌, sym, ap, ℕ, ◌≤◌, ◌<◌, List, [], ◌∷◌, drop, get_or, length, map, None, refl, arith}
 use Rattle.std.specs.Result.{result_ok}
-use Rattle.std.proofs.lemmas.Simd.{map-map}
+use Rattle.dec_text.proofs.Spans.{map-bytes_at}
 use Rattle.dec_text.specs.Wholes.{whole_number}
 use Rattle.dec_text.specs.Spans.{bytes_at, run_at}
 use Rattle.dec_text.specs.declared.lines.Span.{Span}
 use Rattle.site_rows.specs.SiteRows.{is_either_out_of_range, neighbours_of, row_made, row_of}
-
--- the words of spans
-pub words_at : (text : List ℕ) (words : List Span) → map (bytes_at text) words ≡ map (λ word. word.bytes) (map (run_at text) words)
-words_at text words = sym (map-map (λ word. word.bytes) (run_at text) words)
 
 pub short_row : (text : List ℕ) (line : ℕ) (words : List Span) → length words < 5 → row_of line (map (run_at text) words) ≡ None
 short_row text line [] short = refl
@@ -32,4 +28,4 @@ long_row text line (a ∷ x ∷ y ∷ t ∷ []) d long = absurd (omega arith)
 long_row text line (a ∷ x ∷ y ∷ t ∷ n ∷ words) d long =
     ap (λ ws. row_made line (run_at text t) (result_ok (whole_number (bytes_at text a)))
     (is_either_out_of_range (bytes_at text x) (bytes_at text y))
-    (neighbours_of (result_ok (whole_number (bytes_at text n))) ws)) (sym (words_at text words))
+    (neighbours_of (result_ok (whole_number (bytes_at text n))) ws)) (sym (map-bytes_at text words))

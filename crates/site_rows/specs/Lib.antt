@@ -1,11 +1,9 @@
-pub mod Edges
 pub mod Listed
 pub mod Placing
 pub mod ReadRows
-pub mod Readings
 pub mod RowFaults
 pub mod RowLookup
+pub mod SiteNumbers
 pub mod SiteRows
 pub mod TypeIndexes
 pub mod TypeWords
-pub mod Words

@@ -15,7 +15,11 @@ type_at names rows site = option_map_or (λ row. type_of names row.type_word.byt
 abbrev pub neighbours_at : List SiteRow → ℕ → List ℕ
 neighbours_at rows site = option_map_or (λ row. map (λ n. n - 1) row.neighbours) (row_for (site + 1) rows) []
 
+-- the neighbours of all sites
+abbrev pub listed_neighbours : ℕ → List SiteRow → List (List ℕ)
+listed_neighbours sites rows = map (neighbours_at rows) (range_with_len 0 sites)
+
 -- the lattice of a list of sites
 abbrev pub listed_lattice : ℕ → List (List ℕ) → List SiteRow → Lattice
 listed_lattice sites names rows =
-    lattice_from (map (type_at names rows) (range_with_len 0 sites)) (map (neighbours_at rows) (range_with_len 0 sites))
+    lattice_from (map (type_at names rows) (range_with_len 0 sites)) (listed_neighbours sites rows)

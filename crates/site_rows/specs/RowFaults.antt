@@ -5,15 +5,15 @@ use Rattle.std.specs.List.{list_any}
 use Rattle.std.specs.Option.{option_map_or}
 use Rattle.dec_text.specs.Lines.{WordLine}
 use Rattle.deck_values.specs.Lists.{fault_if}
-use Rattle.deck_words.specs.Faults.{with_fault}
+use Rattle.deck_values.specs.Readings.{least, least_fault}
+use Rattle.deck_words.specs.Faults.{earliest, with_fault}
 use Rattle.deck_words.specs.declared.fault.LineFault.{LineFault}
 use Rattle.deck_words.specs.declared.kind.TheConstants.{BAD_SITE, ONE_SIDED, OUT_OF_RANGE, REPEATED_SITE, SELF_NEIGHBOUR}
 use Rattle.deck_words.specs.declared.kind.TheConstants.{TOO_MANY_NEIGHBOURS}
 use Rattle.lattice_core.specs.SiteList.{is_listed}
 use Rattle.lattice_core.specs.declared.graph.TheConstants.{MAX_NEIGHBOURS}
-use Rattle.site_rows.specs.Readings.{earliest, least, least_fault}
+use Rattle.site_rows.specs.SiteNumbers.{is_no_site}
 use Rattle.site_rows.specs.SiteRows.{SiteRow, row_for, rows_of, site_row}
-use Rattle.site_rows.specs.Words.{is_no_site}
 
 -- a row names what is no site
 abbrev pub has_bad_site : Option ℕ → SiteRow → Bool

@@ -10,9 +10,10 @@ use Rattle.dec_text.specs.Lines.{Run, WordLine}
 use Rattle.dec_text.specs.Wholes.{whole_number}
 use Rattle.dec_text.specs.declared.faults.DecimalFault.{DecimalFault}
 use Rattle.dec_text.specs.declared.faults.DecimalFault.TheVariants.{Form, Power}
+use Rattle.deck_values.specs.Names.{bytes_of}
+use Rattle.deck_values.specs.Readings.{values_of}
+use Rattle.deck_values.specs.Rows.{or_form_fault}
 use Rattle.deck_words.specs.declared.fault.LineFault.{LineFault}
-use Rattle.deck_words.specs.declared.kind.TheConstants.{ROW_FORM}
-use Rattle.site_rows.specs.Readings.{values_of}
 
 -- a row of the right form
 pub record SiteRow : Type 0 where
@@ -65,12 +66,7 @@ row_of line (a ∷ x ∷ y ∷ []) = None
 row_of line (a ∷ x ∷ y ∷ t ∷ []) = None
 row_of line (a ∷ x ∷ y ∷ t ∷ n ∷ words) =
     row_made line t (result_ok (whole_number a.bytes)) (is_either_out_of_range x.bytes y.bytes)
-    (neighbours_of (result_ok (whole_number n.bytes)) (map (λ word. word.bytes) words))
-
--- what was found on a line, or else the fault of the row's form
-abbrev pub or_form_fault : {X : Type 0} → ℕ → Option X → Result X LineFault
-or_form_fault line None = Err (record { line = line; kind = ROW_FORM })
-or_form_fault line (Some row) = Ok row
+    (neighbours_of (result_ok (whole_number n.bytes)) (bytes_of words))
 
 -- the row of a site on a line, or the fault of its form
 abbrev pub site_row : WordLine → Result SiteRow LineFault

@@ -10,14 +10,13 @@ ghost use Rattle.site_rows.specs.RowLookup.{IsIndexOf};
 ghost use Rattle.site_rows.specs.SiteRows.{SiteRow, row_for};
 
 use crate::index::{RowNeighbours, has_bad_site, index_rows, sort_and_dedup};
-use crate::readings::earliest;
 use crate::row::{ReadRow, read_forms};
 use dec_text::Line;
 use deck_values::fault_if;
 use deck_words::kind::{
     BAD_SITE, ONE_SIDED, OUT_OF_RANGE, REPEATED_SITE, SELF_NEIGHBOUR, TOO_MANY_NEIGHBOURS,
 };
-use deck_words::{LineFault, with_fault};
+use deck_words::{LineFault, earliest, with_fault};
 use kmc_base::OutOfMemory;
 use lattice_core::MAX_NEIGHBOURS;
 use std::alloc::Global;

@@ -2,13 +2,13 @@ ghost use Rattle.std.specs.Prelude.{◌≡◌, ◌||◌, ◌++◌, ◌∷◌, []
 ghost use Rattle.std.specs.List.{list_any};
 ghost use Rattle.std.specs.List.Sorted.{IsStrictlyIncreasing};
 ghost use Rattle.lattice_core.specs.SiteList.{is_listed};
-ghost use Rattle.site_rows.specs.Words.{is_no_site};
 ghost use Rattle.site_rows.specs.ReadRows.{row_at};
 ghost use Rattle.site_rows.specs.RowLookup.{IsIndexOf, Keeps};
+ghost use Rattle.site_rows.specs.SiteNumbers.{is_no_site};
 ghost use Rattle.site_rows.specs.SiteRows.{SiteRow};
 
 use crate::row::ReadRow;
-use crate::words::is_no_site;
+use crate::site_number::is_no_site;
 use kmc_base::OutOfMemory;
 use std::alloc::Global;
 use std::collections::BTreeMap;

@@ -2,28 +2,23 @@
 //! neighbours.
 //!
 //! `read_rows` gives exactly the rows, or exactly the earliest of their faults; each line is read once. `graph_of` gives
-//! the lattice of such rows. `type_of` gives the type of a type word, and a `TypeIndex` the types of many. What periodic
-//! cells and patterns need too is beside them: `edge_of` reads an edge `i-j`, `is_no_site` says whether a number is that
-//! of no site, `Readings` keeps what was read of a list of rows. The form of a row is that of the Zacros manual; the
+//! the lattice of such rows. `type_of` gives the type of a type word, and a `TypeIndex` the types of many. `is_no_site`
+//! says whether a number is that of no site, of a list or of a cell. The form of a row is that of the Zacros manual; the
 //! faults and the limits are kmc's own. It uses dec_text, deck_values, deck_words, kmc_base and lattice_core, and knows
 //! nothing of blocks.
 #![tactic(auto)]
 
-mod edge;
 mod faults;
 mod index;
 mod listed;
-mod readings;
 mod row;
+mod site_number;
 mod type_index;
 mod type_word;
-mod words;
 
-pub use edge::edge_of;
 pub use faults::read_rows;
 pub use listed::graph_of;
-pub use readings::{Readings, earliest, with_reading};
-pub use row::{ReadRow, or_form_fault};
+pub use row::ReadRow;
+pub use site_number::is_no_site;
 pub use type_index::TypeIndex;
 pub use type_word::{MAX_SITE_TYPES, type_of};
-pub use words::{is_no_site, row_words};

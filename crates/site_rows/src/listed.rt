@@ -1,7 +1,8 @@
-ghost use Rattle.std.specs.Prelude.{◌≡◌, ◌-◌, ◌≤◌, [], All, IfOk, None, OnOk, Some, length, map, replicate, slice_set};
+ghost use Rattle.std.specs.Prelude.{◌≡◌, ◌-◌, ◌≤◌, [], All, IfErr, IfOk, None, OnOk, Some, length, map, replicate, slice_set};
 ghost use Rattle.dec_text.specs.Spans.{bytes_at};
+ghost use Rattle.lattice_core.specs.Fault.{first_fault};
 ghost use Rattle.lattice_core.specs.SiteList.{number_lists, site_numbers};
-ghost use Rattle.site_rows.specs.Listed.{listed_lattice};
+ghost use Rattle.site_rows.specs.Listed.{listed_lattice, listed_neighbours};
 ghost use Rattle.site_rows.specs.Placing.{AreNeighbours, AreTypes, IsSite, NamesSites};
 ghost use Rattle.site_rows.specs.ReadRows.{row_at};
 ghost use Rattle.site_rows.specs.RowFaults.{rows_fault};
@@ -84,7 +85,8 @@ fn place_rows(
 
 /// The lattice of rows that have no fault, whose sites are from 1 to `sites`. The rows may be in any order; the graph
 /// numbers its sites from 0. The type words are looked up in the index of the site types, of which there are at most
-/// 1,000; a site whose type word is no type, or that has no row, has type 0.
+/// 1,000; a site whose type word is no type, or that has no row, has type 0. A fault is the first of the lists of
+/// neighbours, as that of a row which names a site without a row.
 pub fn graph_of(
     alloc: Global,
     bytes: &[u8],
@@ -96,7 +98,8 @@ pub fn graph_of(
     requires within_limit { sites ≤ MAX_SITES }
     requires few_types { length index.now ≤ MAX_SITE_TYPES }
     requires faultless { rows_fault (Some sites) (map (row_at bytes.now) rows.now) ≡ None }
-    ensures { IfOk result (λ graph. IfOk graph (λ g. g ≡ listed_lattice sites index.now (map (row_at bytes.now) rows.now))) }
+    ensures lattice { IfOk result (λ graph. IfOk graph (λ g. g ≡ listed_lattice sites index.now (map (row_at bytes.now) rows.now))) }
+    ensures fault { IfOk result (λ graph. IfErr graph (λ e. first_fault (listed_neighbours sites (map (row_at bytes.now) rows.now)) ≡ Some e)) }
 {
     let mut types = vec![in alloc; 0u16; sites as usize]?;
     let mut lists = empty_lists(alloc, sites)?;

@@ -2,25 +2,15 @@ ghost use Rattle.std.specs.Prelude.{◌≡◌, ℕ, IfOk, List, map};
 ghost use Rattle.std.specs.Option.{option_map};
 ghost use Rattle.dec_text.specs.Decimals.{decimal_of};
 ghost use Rattle.dec_text.specs.Spans.{bytes_at, line_at, run_at};
+ghost use Rattle.deck_values.specs.Readings.{least_fault};
+ghost use Rattle.deck_values.specs.Rows.{or_form_fault};
 ghost use Rattle.deck_words.specs.Faults.{value_map};
 ghost use Rattle.site_rows.specs.ReadRows.{row_at};
-ghost use Rattle.site_rows.specs.Readings.{least_fault};
-ghost use Rattle.site_rows.specs.SiteRows.{
-  all_whole,
-  is_either_out_of_range,
-  is_out_of_range,
-  neighbours_of,
-  or_form_fault,
-  row_made,
-  row_of,
-  rows_of,
-  site_row,
-};
+ghost use Rattle.site_rows.specs.SiteRows.{all_whole, is_either_out_of_range, is_out_of_range, neighbours_of, row_made, row_of, rows_of, site_row};
 
-use crate::readings::{Readings, with_reading};
 use dec_text::{DecimalFault, Line, Span, read_decimal, read_whole};
+use deck_values::{Readings, or_form_fault, with_reading};
 use deck_words::LineFault;
-use deck_words::kind::ROW_FORM;
 use kmc_base::OutOfMemory;
 use std::alloc::Global;
 
@@ -128,19 +118,6 @@ fn row_of(
     let neighbours = neighbours_of(alloc, bytes, count, others)?;
     let site = read_whole(site.bytes(bytes)).ok();
     Ok(row_made(line, *type_word, site, past, neighbours))
-}
-
-/// What was found on a line, or else the fault of the row's form.
-pub fn or_form_fault<T>(line: u32, found: Option<T>) -> Result<T, LineFault>
-    ensures { result ≡ or_form_fault line found }
-{
-    match found {
-        Some(row) => Ok(row),
-        None => Err(LineFault {
-            line,
-            kind: ROW_FORM,
-        }),
-    }
 }
 
 /// The row of a site on a line, or the fault of its form.

@@ -1,8 +1,9 @@
 use Rattle.std.proofs.Common.{◌∙◌, ◌+◌, ap, drop, map, sym}
 use Rattle.dec_text.specs.Spans.{line_at}
+use Rattle.deck_values.specs.Readings.{least}
+use Rattle.deck_words.specs.Faults.{earliest}
 use Rattle.lattice_deck.specs.Coordinates.{row_fault}
-use Rattle.site_rows.specs.Readings.{earliest, least}
-use Rattle.site_rows.proofs.EarliestFaults.{earliest_groups, next_left}
+use Rattle.deck_values.proofs.EarliestFaults.{earliest_groups, next_left}
 use Rattle.lattice_deck.proofs.coordinates.rows_fault.Goals as goal
 
 pub loop-row-preserved : goal.loop-row-preserved

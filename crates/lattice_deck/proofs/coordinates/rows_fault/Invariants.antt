@@ -1,7 +1,8 @@
 use Rattle.std.proofs.Common.{◌≡◌, drop, map}
 use Rattle.dec_text.specs.Spans.{line_at}
+use Rattle.deck_values.specs.Readings.{least}
+use Rattle.deck_words.specs.Faults.{earliest}
 use Rattle.lattice_deck.specs.Coordinates.{row_fault}
-use Rattle.site_rows.specs.Readings.{earliest, least}
 use Rattle.lattice_deck.proofs.coordinates.rows_fault.Given as goal
 
 -- the earliest fault so far, and of what is left, is that of all

@@ -1,6 +1,7 @@
 use Rattle.std.proofs.Common.{◌≡◌, drop, map}
+use Rattle.deck_values.specs.Readings.{least}
+use Rattle.deck_words.specs.Faults.{earliest}
 use Rattle.lattice_deck.specs.Joins.{itself_fault}
-use Rattle.site_rows.specs.Readings.{earliest, least}
 use Rattle.lattice_deck.proofs.joins.itself_faults.Given as goal
 
 -- the earliest fault so far, and of what is left, is that of all

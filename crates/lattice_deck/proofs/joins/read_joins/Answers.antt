@@ -1,12 +1,13 @@
 use Rattle.std.proofs.Common.{◌≡◌, ◌∙◌, ◌+◌, ◌++◌, [], ◌∷◌, List, IfOk, Ok, Err, Result, Option, ℕ, ap, append_assoc, drop, map, subst, sym}
 use Rattle.std.proofs.lemmas.List.{append-nil}
 use Rattle.dec_text.specs.Spans.{line_at}
+use Rattle.deck_values.specs.Readings.{least_fault, values_of, with_value}
+use Rattle.deck_words.specs.Faults.{earliest, fault_of}
 use Rattle.deck_words.specs.declared.fault.LineFault.{LineFault}
 use Rattle.lattice_deck.specs.Ends.{AreEnds, HasEnds}
 use Rattle.lattice_deck.specs.Joins.{join_row}
 use Rattle.lattice_deck.specs.declared.joins.JoinRow.{JoinRow}
-use Rattle.site_rows.specs.Readings.{earliest, fault_of, least_fault, values_of, with_value}
-use Rattle.site_rows.proofs.EarliestFaults.{earliest_groups, next_left}
+use Rattle.deck_values.proofs.EarliestFaults.{earliest_groups, next_left}
 use Rattle.lattice_deck.proofs.joins.read_joins.Goals as goal
 
 pushed : (items : List JoinRow) (next : Result JoinRow LineFault) (rest : List JoinRow)

@@ -1,8 +1,9 @@
 use Rattle.std.proofs.Common.{◌≡◌, ◌++◌, drop, map}
 use Rattle.dec_text.specs.Spans.{line_at}
+use Rattle.deck_values.specs.Readings.{least_fault, values_of}
+use Rattle.deck_words.specs.Faults.{earliest}
 use Rattle.lattice_deck.specs.Ends.{AreEnds}
 use Rattle.lattice_deck.specs.Joins.{join_row}
-use Rattle.site_rows.specs.Readings.{earliest, least_fault, values_of}
 use Rattle.lattice_deck.proofs.joins.read_joins.Given as goal
 
 -- what is read so far, and what is left, is all

@@ -3,6 +3,7 @@ use Rattle.std.proofs.lemmas.List.{length-map}
 use Rattle.std.specs.Result.{result_ok}
 use Rattle.std.specs.declared.alloc.Global.{Global}
 use Rattle.std.specs.declared.vec.Vec.{Vec}
+use Rattle.deck_shape.specs.BlockValues.{required}
 use Rattle.deck_shape.specs.Blocks.{block_at}
 use Rattle.deck_shape.specs.Names.{name_at}
 use Rattle.deck_shape.specs.declared.name.Name.{Name}
@@ -12,7 +13,6 @@ use Rattle.deck_words.specs.declared.keyword.Keyword.TheVariants.{NeighboringStr
 use Rattle.kmc_base.specs.declared.limits.TheConstants.{MAX_SITES}
 use Rattle.lattice_deck.specs.Ends.{AreEnds}
 use Rattle.lattice_deck.specs.Joins.{joins_on}
-use Rattle.lattice_deck.specs.Lines.{required}
 use Rattle.lattice_deck.specs.Parts.{cell_joins, cell_sizes, cell_values, type_words}
 use Rattle.lattice_deck.specs.Sizes.{repeats_on}
 use Rattle.lattice_deck.specs.declared.joins.JoinRow.{JoinRow}
@@ -26,10 +26,10 @@ use Rattle.lattice_deck.proofs.values.cell_part.Goals as goal
 pub cell_joins-requires : goal.cell_joins-requires
 cell_joins-requires c =
     let block = block_at c.args.bytes.now c.args.block.now in
-    let sites : c.ok-2.result ≡ (cell_sizes block).sites = c.ok-2.ensures.value ∙ ap result_ok c.number_in-sites.ensures in
+    let sites : c.ok-2.result ≡ (cell_sizes block).sites = c.ok-2.ensures.value ∙ ap result_ok c.sites_in-sites.ensures in
     let repeats : c.ok-3.result ≡ (cell_sizes block).repeats =
     c.ok-3.ensures.value ∙ ap result_ok (c.cell_repeats-repeats.ensures
-    ∙ ap (λ s. required RepeatCell block (repeats_on s)) (c.ok.ensures.value ∙ ap result_ok c.number_in-sites.ensures)) in
+    ∙ ap (λ s. required RepeatCell block (repeats_on s)) (c.ok.ensures.value ∙ ap result_ok c.sites_in-sites.ensures)) in
     rw (sites, repeats) (sizes_sound block)
 
 pub cell_values-requires : goal.cell_values-requires
@@ -39,16 +39,16 @@ cell_values-requires c =
     let f = λ (n : Vec (Vec ℕ Global) Global). map (λ name. name.items) n.items in
     let g = λ (w : Vec Name Global). map (name_at text) w.items in
     let h = λ (j : Vec JoinRow Global). j.items in
-    let sites_are = c.number_in-sites.ensures in
+    let sites_are = c.sites_in-sites.ensures in
     let repeats_are = c.cell_repeats-repeats.ensures ∙ ap (λ s. required RepeatCell block (repeats_on s)) (c.ok.ensures.value ∙ ap result_ok
     sites_are) in
     let words_are = c.in_ok-words.ensures ∙ ap (λ s. type_words s block) (c.ok-4.ensures.value ∙ ap result_ok sites_are) in
     let sites : c.ok-2.result ≡ (cell_sizes block).sites = c.ok-2.ensures.value ∙ ap result_ok sites_are in
     let repeats : c.ok-3.result ≡ (cell_sizes block).repeats = c.ok-3.ensures.value ∙ ap result_ok repeats_are in
-    let chain = cell_chain c.cell_unused-unused.result c.number_in-sites.result c.cell_repeats-repeats.result c.in_ok-names.names
+    let chain = cell_chain c.cell_unused-unused.result c.sites_in-sites.result c.cell_repeats-repeats.result c.in_ok-names.names
     c.in_ok-words.words c.in_ok-joins.joins c.both.result c.both-2.result c.both-3.result c.both-read.result c.with_fault.result
     c.both.ensures c.both-2.ensures c.both-3.ensures c.both-read.ensures c.with_fault.ensures in
-    let facts = cell_facts f g h block c.cell_unused-unused.result c.number_in-sites.result c.cell_repeats-repeats.result c.in_ok-names.names
+    let facts = cell_facts f g h block c.cell_unused-unused.result c.sites_in-sites.result c.cell_repeats-repeats.result c.in_ok-names.names
     c.in_ok-words.words c.in_ok-joins.joins sites_are repeats_are c.in_ok-names.ensures words_are c.in-Ok.cell.0.0 c.in-Ok.cell.0.1
     c.in-Ok.cell.1.0 c.in-Ok.cell.1.1.0 c.in-Ok.cell.1.1.1 (chain ∙ c.in-Ok.is) in
     let are = facts.0 in
@@ -74,13 +74,13 @@ returns-in_ok-cell_values-in-Ok c =
     let f = λ (n : Vec (Vec ℕ Global) Global). map (λ name. name.items) n.items in
     let g = λ (w : Vec Name Global). map (name_at text) w.items in
     let h = λ (j : Vec JoinRow Global). j.items in
-    let sites_are = c.number_in-sites.ensures in
+    let sites_are = c.sites_in-sites.ensures in
     let repeats_are = c.cell_repeats-repeats.ensures ∙ ap (λ s. required RepeatCell block (repeats_on s)) (c.ok.ensures.value ∙ ap result_ok
     sites_are) in
     let words_are = c.in_ok-words.ensures ∙ ap (λ s. type_words s block) (c.ok-4.ensures.value ∙ ap result_ok sites_are) in
     let sites : c.ok-2.result ≡ (cell_sizes block).sites = c.ok-2.ensures.value ∙ ap result_ok sites_are in
     let repeats : c.ok-3.result ≡ (cell_sizes block).repeats = c.ok-3.ensures.value ∙ ap result_ok repeats_are in
-    let chain = cell_chain c.cell_unused-unused.result c.number_in-sites.result c.cell_repeats-repeats.result c.in_ok-names.names
+    let chain = cell_chain c.cell_unused-unused.result c.sites_in-sites.result c.cell_repeats-repeats.result c.in_ok-names.names
     c.in_ok-words.words c.in_ok-joins.joins c.both.result c.both-2.result c.both-3.result c.both-read.result c.with_fault.result
     c.both.ensures c.both-2.ensures c.both-3.ensures c.both-read.ensures c.with_fault.ensures in
     let sized : Sizes → Result (List JoinRow) LineFault = λ z. required NeighboringStructure block (joins_on z) in
@@ -88,7 +88,7 @@ returns-in_ok-cell_values-in-Ok c =
     c.in_ok-joins.ensures.value
     ∙ ap (λ s. sized (record { sites = s; repeats = c.ok-3.result })) sites
     ∙ ap (λ r. sized (record { sites = (cell_sizes block).sites; repeats = r })) repeats in
-    let all = cell_read f g h block c.cell_unused-unused.result c.number_in-sites.result c.cell_repeats-repeats.result c.in_ok-names.names
+    let all = cell_read f g h block c.cell_unused-unused.result c.sites_in-sites.result c.cell_repeats-repeats.result c.in_ok-names.names
     c.in_ok-words.words c.in_ok-joins.joins sites_are repeats_are c.in_ok-names.ensures words_are joins_are c.cell_unused-unused.ensures in
     ap (λ v. Ok v) c.in_ok-cell_values-in-Ok.ensures
     ∙ sym (ap (value_map cell_values) (all ∙ ap (value_map (λ v. (v.0, (f v.1.0, (g v.1.1.0, h v.1.1.1))))) (chain ∙ c.in-Ok.is)))
@@ -100,13 +100,13 @@ returns-in-Err c =
     let f = λ (n : Vec (Vec ℕ Global) Global). map (λ name. name.items) n.items in
     let g = λ (w : Vec Name Global). map (name_at text) w.items in
     let h = λ (j : Vec JoinRow Global). j.items in
-    let sites_are = c.number_in-sites.ensures in
+    let sites_are = c.sites_in-sites.ensures in
     let repeats_are = c.cell_repeats-repeats.ensures ∙ ap (λ s. required RepeatCell block (repeats_on s)) (c.ok.ensures.value ∙ ap result_ok
     sites_are) in
     let words_are = c.in_ok-words.ensures ∙ ap (λ s. type_words s block) (c.ok-4.ensures.value ∙ ap result_ok sites_are) in
     let sites : c.ok-2.result ≡ (cell_sizes block).sites = c.ok-2.ensures.value ∙ ap result_ok sites_are in
     let repeats : c.ok-3.result ≡ (cell_sizes block).repeats = c.ok-3.ensures.value ∙ ap result_ok repeats_are in
-    let chain = cell_chain c.cell_unused-unused.result c.number_in-sites.result c.cell_repeats-repeats.result c.in_ok-names.names
+    let chain = cell_chain c.cell_unused-unused.result c.sites_in-sites.result c.cell_repeats-repeats.result c.in_ok-names.names
     c.in_ok-words.words c.in_ok-joins.joins c.both.result c.both-2.result c.both-3.result c.both-read.result c.with_fault.result
     c.both.ensures c.both-2.ensures c.both-3.ensures c.both-read.ensures c.with_fault.ensures in
     let sized : Sizes → Result (List JoinRow) LineFault = λ z. required NeighboringStructure block (joins_on z) in
@@ -114,6 +114,6 @@ returns-in-Err c =
     c.in_ok-joins.ensures.value
     ∙ ap (λ s. sized (record { sites = s; repeats = c.ok-3.result })) sites
     ∙ ap (λ r. sized (record { sites = (cell_sizes block).sites; repeats = r })) repeats in
-    let all = cell_read f g h block c.cell_unused-unused.result c.number_in-sites.result c.cell_repeats-repeats.result c.in_ok-names.names
+    let all = cell_read f g h block c.cell_unused-unused.result c.sites_in-sites.result c.cell_repeats-repeats.result c.in_ok-names.names
     c.in_ok-words.words c.in_ok-joins.joins sites_are repeats_are c.in_ok-names.ensures words_are joins_are c.cell_unused-unused.ensures in
     sym (ap (value_map cell_values) (all ∙ ap (value_map (λ v. (v.0, (f v.1.0, (g v.1.1.0, h v.1.1.1))))) (chain ∙ c.in-Err.is)))

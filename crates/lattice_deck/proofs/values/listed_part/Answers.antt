@@ -20,10 +20,10 @@ listed_graph-requires-clause-some c =
     let block = block_at text c.args.block.now in
     let f = λ (n : Vec (Vec ℕ Global) Global). map (λ name. name.items) n.items in
     let g = λ (r : Vec ReadRow Global). map (row_at text) r.items in
-    let sites_are = c.number_in-sites.ensures in
-    let chain = listed_chain c.listed_unused.result c.number_in-sites.result c.in_ok-names.names c.in_ok-rows.rows c.both.result c.both-read.result
+    let sites_are = c.sites_in-sites.ensures in
+    let chain = listed_chain c.listed_unused.result c.sites_in-sites.result c.in_ok-names.names c.in_ok-rows.rows c.both.result c.both-read.result
     c.with_fault.result c.both.ensures c.both-read.ensures c.with_fault.ensures in
-    let facts = listed_facts f g block c.listed_unused.result c.number_in-sites.result c.in_ok-names.names c.in_ok-rows.rows
+    let facts = listed_facts f g block c.listed_unused.result c.sites_in-sites.result c.in_ok-names.names c.in_ok-rows.rows
     sites_are c.in_ok-names.ensures c.in-Ok.sites c.in-Ok.names c.in-Ok.rows (chain ∙ c.in-Ok.is) in
     facts.0
 
@@ -33,10 +33,10 @@ listed_graph-requires-clause-few c =
     let block = block_at text c.args.block.now in
     let f = λ (n : Vec (Vec ℕ Global) Global). map (λ name. name.items) n.items in
     let g = λ (r : Vec ReadRow Global). map (row_at text) r.items in
-    let sites_are = c.number_in-sites.ensures in
-    let chain = listed_chain c.listed_unused.result c.number_in-sites.result c.in_ok-names.names c.in_ok-rows.rows c.both.result c.both-read.result
+    let sites_are = c.sites_in-sites.ensures in
+    let chain = listed_chain c.listed_unused.result c.sites_in-sites.result c.in_ok-names.names c.in_ok-rows.rows c.both.result c.both-read.result
     c.with_fault.result c.both.ensures c.both-read.ensures c.with_fault.ensures in
-    let facts = listed_facts f g block c.listed_unused.result c.number_in-sites.result c.in_ok-names.names c.in_ok-rows.rows
+    let facts = listed_facts f g block c.listed_unused.result c.sites_in-sites.result c.in_ok-names.names c.in_ok-rows.rows
     sites_are c.in_ok-names.ensures c.in-Ok.sites c.in-Ok.names c.in-Ok.rows (chain ∙ c.in-Ok.is) in
     facts.1
 
@@ -46,10 +46,10 @@ listed_graph-requires-clause-names c =
     let block = block_at text c.args.block.now in
     let f = λ (n : Vec (Vec ℕ Global) Global). map (λ name. name.items) n.items in
     let g = λ (r : Vec ReadRow Global). map (row_at text) r.items in
-    let sites_are = c.number_in-sites.ensures in
-    let chain = listed_chain c.listed_unused.result c.number_in-sites.result c.in_ok-names.names c.in_ok-rows.rows c.both.result c.both-read.result
+    let sites_are = c.sites_in-sites.ensures in
+    let chain = listed_chain c.listed_unused.result c.sites_in-sites.result c.in_ok-names.names c.in_ok-rows.rows c.both.result c.both-read.result
     c.with_fault.result c.both.ensures c.both-read.ensures c.with_fault.ensures in
-    let facts = listed_facts f g block c.listed_unused.result c.number_in-sites.result c.in_ok-names.names c.in_ok-rows.rows
+    let facts = listed_facts f g block c.listed_unused.result c.sites_in-sites.result c.in_ok-names.names c.in_ok-rows.rows
     sites_are c.in_ok-names.ensures c.in-Ok.sites c.in-Ok.names c.in-Ok.rows (chain ∙ c.in-Ok.is) in
     let names_now : c.deref.result.now ≡ c.in-Ok.names.items = cc in
     let named : length c.deref.result.now ≡ length (f c.in-Ok.names) =
@@ -62,11 +62,11 @@ returns-in_ok-words_of-in-Ok c =
     let block = block_at text c.args.block.now in
     let f = λ (n : Vec (Vec ℕ Global) Global). map (λ name. name.items) n.items in
     let g = λ (r : Vec ReadRow Global). map (row_at text) r.items in
-    let sites_are = c.number_in-sites.ensures in
-    let chain = listed_chain c.listed_unused.result c.number_in-sites.result c.in_ok-names.names c.in_ok-rows.rows c.both.result c.both-read.result
+    let sites_are = c.sites_in-sites.ensures in
+    let chain = listed_chain c.listed_unused.result c.sites_in-sites.result c.in_ok-names.names c.in_ok-rows.rows c.both.result c.both-read.result
     c.with_fault.result c.both.ensures c.both-read.ensures c.with_fault.ensures in
     let rows_are = c.in_ok-rows.ensures.rows ∙ ap (λ s. listed_rows s block) (c.ok.ensures.value ∙ ap result_ok sites_are) in
-    let all = listed_read f g block c.listed_unused.result c.number_in-sites.result c.in_ok-names.names c.in_ok-rows.rows
+    let all = listed_read f g block c.listed_unused.result c.sites_in-sites.result c.in_ok-names.names c.in_ok-rows.rows
     sites_are c.in_ok-names.ensures rows_are c.listed_unused.ensures in
     let names_now : c.deref.result.now ≡ c.in-Ok.names.items = cc in
     let rows_now : c.deref-in-Ok.result.now ≡ c.in-Ok.rows.items = cc in

@@ -1,9 +1,9 @@
 use Rattle.std.proofs.Common.{◌∙◌, ◌+◌, ◌++◌, ◌∷◌, [], ap, drop, map, subst, sym, take}
+use Rattle.deck_words.specs.Faults.{earliest}
 use Rattle.site_rows.specs.ReadRows.{row_at}
-use Rattle.site_rows.specs.Readings.{earliest}
 use Rattle.site_rows.specs.RowFaults.{fault_below}
 use Rattle.site_rows.specs.RowLookup.{HasSitesOf}
-use Rattle.site_rows.proofs.EarliestFaults.{earliest_groups, next_left}
+use Rattle.deck_values.proofs.EarliestFaults.{earliest_groups, next_left}
 use Rattle.site_rows.proofs.Placed.{taken_more}
 use Rattle.site_rows.proofs.RowLookups.{first-from_added, sites_pushed}
 use Rattle.site_rows.proofs.faults.rows_fault.Goals as goal

@@ -1,6 +1,6 @@
 use Rattle.std.proofs.Common.{◌≡◌, ℕ, List, drop, map, take}
+use Rattle.deck_words.specs.Faults.{earliest}
 use Rattle.site_rows.specs.ReadRows.{row_at}
-use Rattle.site_rows.specs.Readings.{earliest}
 use Rattle.site_rows.specs.RowFaults.{fault_below, rows_fault}
 use Rattle.site_rows.specs.RowLookup.{HasSitesOf}
 use Rattle.site_rows.proofs.faults.rows_fault.Given as goal

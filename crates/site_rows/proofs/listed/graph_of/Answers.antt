@@ -1,7 +1,9 @@
-use Rattle.std.proofs.Common.{◌≡◌, ◌∙◌, ◌++◌, IfOk, ap, arith, drop, length, map, subst, take}
+use Rattle.std.proofs.Common.{◌≡◌, ◌∙◌, ◌++◌, IfErr, IfOk, Some, ap, arith, drop, length, map, subst, take}
+use Rattle.std.specs.List.{range_with_len}
 use Rattle.std.proofs.lemmas.List.{length-replicate, take_at}
-use Rattle.lattice_core.specs.Fault.{lattice_from}
+use Rattle.lattice_core.specs.Fault.{first_fault, lattice_from}
 use Rattle.lattice_core.specs.SiteList.{number_lists}
+use Rattle.site_rows.specs.Listed.{neighbours_at}
 use Rattle.site_rows.specs.ReadRows.{row_at}
 use Rattle.site_rows.proofs.Placed.{first_lists, first_types, list_total, listed_is}
 use Rattle.site_rows.proofs.listed.graph_of.Goals as goal
@@ -22,7 +24,12 @@ returns c =
     let are_types = c.in_ok-place_rows.ensures.types (first_types names c.as_mut_slice.result.now c.args.sites zeros) in
     let are_lists = c.in_ok-place_rows.ensures.lists
     (first_lists c.as_mut_slice-2.result.now c.args.sites (ap number_lists first ∙ c.in_ok-lists.ensures)) in
-    subst (λ lattice. IfOk c.new.result (λ g. g ≡ lattice))
-    (ap (λ ts. lattice_from ts (number_lists (take c.in_ok-lists.lists.len (lists ++ drop (length lists) c.in_ok-lists.lists.items)))) kept_types
-    ∙ ap (λ ls. lattice_from types (number_lists ls)) kept_lists
-    ∙ listed_is names rows types lists c.args.sites are_types are_lists long many) c.new.ensures.graph
+    let lists_are = ap number_lists kept_lists ∙ are_lists ∙ ap (λ m. map (neighbours_at rows) (range_with_len 0 m)) many in
+    let all_lists = take c.in_ok-lists.lists.len (lists ++ drop (length lists) c.in_ok-lists.lists.items) in
+    record {
+      lattice = subst (λ lattice. IfOk c.new.result (λ g. g ≡ lattice))
+          (ap (λ ts. lattice_from ts (number_lists all_lists)) kept_types
+          ∙ ap (λ ls. lattice_from types (number_lists ls)) kept_lists
+          ∙ listed_is names rows types lists c.args.sites are_types are_lists long many) c.new.ensures.graph;
+      fault = subst (λ ls. IfErr c.new.result (λ e. first_fault ls ≡ Some e)) lists_are c.new.ensures.fault;
+    }

@@ -1,9 +1,10 @@
 use Rattle.std.proofs.Common.{◌∙◌, ◌+◌, ◌++◌, ap, drop, map, sym}
 use Rattle.dec_text.specs.Spans.{line_at}
+use Rattle.deck_values.specs.Readings.{least_fault}
+use Rattle.deck_words.specs.Faults.{earliest}
 use Rattle.site_rows.specs.ReadRows.{row_at}
-use Rattle.site_rows.specs.Readings.{earliest, least_fault}
 use Rattle.site_rows.specs.SiteRows.{rows_of, site_row}
-use Rattle.site_rows.proofs.EarliestFaults.{fault_next, next_left, values_next}
+use Rattle.deck_values.proofs.EarliestFaults.{fault_next, next_left, values_next}
 use Rattle.site_rows.proofs.row.read_forms.Goals as goal
 
 pub loop-line-preserved : goal.loop-line-preserved

@@ -1,7 +1,8 @@
 use Rattle.std.proofs.Common.{◌≡◌, ◌++◌, drop, map}
 use Rattle.dec_text.specs.Spans.{line_at}
+use Rattle.deck_values.specs.Readings.{least_fault}
+use Rattle.deck_words.specs.Faults.{earliest}
 use Rattle.site_rows.specs.ReadRows.{row_at}
-use Rattle.site_rows.specs.Readings.{earliest, least_fault}
 use Rattle.site_rows.specs.SiteRows.{rows_of, site_row}
 use Rattle.site_rows.proofs.row.read_forms.Given as goal
 
