@@ -1,15 +1,13 @@
 ghost use Rattle.std.specs.Prelude.{◌≡◌, ◌-◌, ◌*◌, ◌/◌, ◌%◌, ◌^◌, ◌<◌, ◌≤◌, ℕ, List};
 ghost use Rattle.lattice_core.specs.SiteList.{site_numbers};
 ghost use Rattle.pattern_types.specs.Parts.{vertex_count};
+ghost use Rattle.pattern_types.specs.declared.limits.TheConstants.{MAX_PROCESSES};
 ghost use Rattle.pattern_list.specs.Code.{code_of, slot_at, slots_code, HasCode, IsCode};
 
 use crate::sites::{parent_of, site_of, vertex_at, with_site};
 use kmc_base::{ProcId, SiteId};
 use lattice_core::{Graph, MAX_NEIGHBOURS};
 use pattern_types::{MAX_VERTICES, Pattern, Placement};
-
-/// The greatest number of processes: the number of a process has ten bits of a code.
-pub const MAX_PROCESSES: u16 = 1_024;
 
 /// The slot of the vertex at a place of the order.
 fn slot_at(graph: &Graph, pattern: &Pattern, sites: &[SiteId], place: u8) -> u8

@@ -1,4 +1,6 @@
+pub mod ConnectedLemmas
 pub mod EdgeLemmas
+pub mod EdgeLists
 pub mod FaultLemmas
 pub mod KeptLemmas
 pub mod OrderLemmas

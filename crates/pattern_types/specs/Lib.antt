@@ -1,3 +1,4 @@
+pub mod Connected
 pub mod Edges
 pub mod Kept
 pub mod Order

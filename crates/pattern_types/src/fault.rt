@@ -23,7 +23,7 @@ impl fmt::Display for PatternFault {
         f.write_str(match self {
             PatternFault::Empty => "a pattern has at least one vertex",
             PatternFault::TooLarge => "a pattern has at most eight vertices",
-            PatternFault::BadEdge => "an edge adjacent two different vertices of its pattern",
+            PatternFault::BadEdge => "an edge joins two different vertices of its pattern",
             PatternFault::NotConnected => "the vertices of a pattern are connected",
             PatternFault::DoubleDentate => "an entity of a pattern names a dentate once",
             PatternFault::TwoSpecies => "an entity of a pattern names one species",

@@ -6,9 +6,12 @@
 //! names a dentate twice or two species. Its vertices have one order, in which each but the first has
 //! a parent, an earlier vertex that it is adjacent to: an edge joins the two.
 //!
+//! Two calls need no pattern: whether edges connect the vertices, and the list of the edges, each once.
+//!
 //! `kmc_base` has the numbers of sites and species.
 #![tactic(auto)]
 
+mod connected;
 mod edges;
 mod fault;
 mod limits;
@@ -17,8 +20,10 @@ mod pattern;
 mod placement;
 mod wanted;
 
+pub use connected::is_connected;
+pub use edges::distinct_edges;
 pub use fault::PatternFault;
-pub use limits::MAX_VERTICES;
+pub use limits::{MAX_CLUSTERS, MAX_PROCESSES, MAX_VERTICES};
 pub use pattern::Pattern;
 pub use placement::Placement;
 pub use wanted::Wanted;
