@@ -1,0 +1,2 @@
+mod SoundParts
+mod SoundVariants

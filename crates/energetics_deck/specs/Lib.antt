@@ -1,0 +1,5 @@
+pub mod Clusters
+pub mod Parts
+pub mod Shares
+pub mod Soundness
+pub mod Views

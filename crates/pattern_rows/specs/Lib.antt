@@ -1,0 +1,12 @@
+pub mod Edges
+pub mod Listings
+pub mod Patterns
+pub mod RowsAbove
+pub mod SectionNames
+pub mod Sites
+pub mod States
+pub mod TypeWords
+pub mod Types
+pub mod Variants
+pub mod Views
+pub mod WordLine
