@@ -1,0 +1,6 @@
+mod BodyParts
+mod CommonParts
+mod GasPairs
+mod SoundChanges
+mod SoundParts
+mod SoundVariants

@@ -1,0 +1,6 @@
+pub mod Changes
+pub mod Numbers
+pub mod Parts
+pub mod Soundness
+pub mod Steps
+pub mod Views
