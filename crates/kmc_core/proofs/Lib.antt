@@ -1,11 +1,6 @@
-pub mod AdsorbateCounts
-pub mod AllLemmas
 pub mod AnchorInstances
-pub mod CodeOrder
 pub mod FirstFirings
-pub mod Instances
+pub mod GasNumbers
 pub mod MergedEntries
-pub mod OfferedInstances
-pub mod OfferedPlacements
 pub mod RenewedEntries
 pub mod Runs

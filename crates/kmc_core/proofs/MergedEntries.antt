@@ -5,7 +5,7 @@ use Rattle.std.specs.List.{AllByRecursion}
 use Rattle.kmc_base.proofs.EntryLists.{entry_at-behind}
 use Rattle.kmc_base.specs.Entries.{IsRising, codes_of, entry_at, chosen, kept_or}
 use Rattle.kmc_base.specs.declared.entry.Entry.{Entry}
-use Rattle.kmc_core.proofs.CodeOrder.{all-by_code, by_code-append}
+use Rattle.rate_rules.proofs.CodeOrder.{all-by_code, by_code-append}
 use Rattle.trajectory.specs.ByCode.{by_code}
 use Rattle.trajectory.specs.Trajectory.{fresh, renewed}
 use Rattle.kmc_core.specs.declared.renewal.Renewal.{Renewal}

@@ -1,8 +1,5 @@
-pub mod Deck
+pub mod DeckSystem
 pub mod Firing
-pub mod InstanceRange
-pub mod Instances
 pub mod ListedProcess
-pub mod PlainSystem
 pub mod Run
 pub mod Stops

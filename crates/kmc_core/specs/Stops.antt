@@ -5,9 +5,9 @@ use Rattle.kmc_base.specs.declared.limits.TheConstants.{END_OF_TIME}
 use Rattle.kmc_core.specs.declared.stop.Stop.{Stop}
 use Rattle.kmc_core.specs.declared.stop.TheConstants.{MAX_SAMPLES}
 use Rattle.kmc_core.specs.declared.stop.Stop.TheVariants.{Samples, Steps, Still, Horizon}
-use Rattle.sim_deck.specs.declared.part.Plan.{Plan}
-use Rattle.sim_deck.specs.declared.part.Sampling.{Sampling}
-use Rattle.sim_deck.specs.declared.part.Sampling.TheVariants.{Off, Event, Time}
+use Rattle.run_plan.specs.declared.plan.Plan.{Plan}
+use Rattle.run_plan.specs.declared.plan.Sampling.{Sampling}
+use Rattle.run_plan.specs.declared.plan.Sampling.TheVariants.{Off, Event, Time}
 
 -- how many samples of an output are due at an event and its time
 abbrev pub samples_due : Sampling → ℕ → ℕ → ℕ

@@ -1,34 +1,38 @@
-ghost use Rattle.std.specs.Prelude.{◌≡◌, ◌==◌, ℕ, ◌≤◌, ◌<◌, IfOk, IfErr, IsSomeAnd, count_by};
+ghost use Rattle.std.specs.Prelude.{◌≡◌, ◌*◌, ◌^◌, ◌≤◌, ◌<◌, All, IfOk, IfErr, IsSomeAnd, length, unsigned_abs};
 ghost use Rattle.std.specs.Option.{option_map};
+ghost use Rattle.deck.specs.Soundness.{IsSound, dentates_in};
 ghost use Rattle.kmc_base.specs.Entries.{least as least_of};
-ghost use Rattle.kmc_base.specs.declared.limits.TheConstants.{END_OF_TIME, MAX_DENTATES};
-ghost use Rattle.kmc_core.specs.Deck.{IsSound, dentates_in};
-ghost use Rattle.kmc_core.specs.PlainSystem.{is_home_of, opening as opening_of, system_of, trajectory_of};
-ghost use Rattle.kmc_core.specs.Run.{stop_of};
-ghost use Rattle.trajectory.specs.Trajectory.{start};
+ghost use Rattle.kmc_base.specs.declared.limits.TheConstants.{END_OF_TIME};
+ghost use Rattle.kmc_core.specs.DeckSystem.{opening as opening_of, system_of, trajectory_of};
+ghost use Rattle.kmc_core.specs.Run.{IsWithin, energy_of, stop_of};
 ghost use Rattle.lattice_core.specs.Config.{IsWellFormed};
+ghost use Rattle.lattice_core.specs.Lattice.{site_count};
+ghost use Rattle.trajectory.specs.Trajectory.{start};
 
-use crate::deck::PlainDeck;
 use crate::entry_lists::EntryLists;
 use crate::fired::Fired;
+use crate::run_state::RunState;
 use crate::stop::{Stop, stop_at};
+use crate::total_energy::total_energy;
 use crate::unclosed::Unclosed;
-use kmc_base::{Firing, OutOfMemory, SpeciesId};
-use lattice_core::{Config, Steps};
+use deck::Deck;
+use kmc_base::{Firing, OutOfMemory};
+use lattice_core::Config;
 use std::alloc::Global;
-use std::marker::{Brand, Model};
-use std::sync::ledger::{Blank, Ledger};
+use std::marker::Model;
 
 /// A run at an event, with every instance listed: the state of the deck's trajectory at this event.
 ///
 /// A contract sees it as its deck and the number of the event, which determine all else.
 #[derive(Debug, Drop)]
 pub struct Closed {
-    pub(crate) deck: PlainDeck,
+    pub(crate) deck: Deck,
     pub(crate) event: u64,
     pub(crate) time: u128,
-    pub(crate) config: Config,
+    pub(crate) state: RunState,
     pub(crate) lists: EntryLists,
+    // The energy of the lattice, in neV.
+    pub(crate) energy: i128,
 }
 
 impl Model for Closed {
@@ -40,59 +44,42 @@ impl Model for Closed {
 
     ghost view = { λ c. record { deck = c.deck; event = c.event } };
 
-    ghost invariant = { λ c. IsClosedAt c.deck c.event (record { state = c.config; time = c.time; entries = c.lists.current }) };
+    ghost invariant = { λ c. IsClosedAt c.deck c.event (record { state = c.state; time = c.time; entries = c.lists.current }) c.energy };
 }
 
-/// The configuration and the entries of a deck at its start.
-fn opening(alloc: Global, deck: &PlainDeck) -> Result<(Config, EntryLists), OutOfMemory>
+/// The state, the entries and the energy of a deck at its start.
+fn opening(alloc: Global, deck: &Deck) -> Result<(RunState, EntryLists, i128), OutOfMemory>
     requires { IsSound deck.now }
-    ensures states { IfOk result (λ r. r.0 ≡ opening_of deck.now) }
-    ensures well_formed { IfOk result (λ r. IsWellFormed (dentates_in deck.now.book) r.0) }
+    ensures state { IfOk result (λ r. r.0 ≡ opening_of deck.now) }
+    ensures within { IfOk result (λ r. IsWithin deck.now 0 r.0) }
     ensures entries { IfOk result (λ r. r.1.current ≡ (start (system_of deck.now) deck.now.plan.seed (opening_of deck.now)).entries) }
+    ensures energy { IfOk result (λ r. r.2 ≡ energy_of deck.now r.0.states) }
+    ensures range { IfOk result (λ r. unsigned_abs r.2 ≤ 2 ^ 99) }
 {
-    let config = Config::vacant(alloc, deck.graph.len())?;
+    let state = RunState::opening(alloc, deck)?;
+    let energy = total_energy(alloc, deck, state.config())?;
     let mut lists = EntryLists::none(alloc);
-    lists.renew(alloc, deck, &config, 0, 0, None)?;
-    Ok((config, lists.advanced()))
-}
-
-/// How many of some sites have a class.
-fn count_class(classes: &[u32], class: u32) -> u64
-    ensures { result ≡ count_by (λ other. other == class) classes.now }
-{
-    classes.iter().filter(|other| **other == class).count() as u64
-}
-
-/// How many adsorbates of a species there are: as many as sites with their dentate 1.
-fn count_homes<L: Ledger>(config: &Config, species: SpeciesId, blank: Blank) -> u64
-    requires name { blank.name ≡ L.name }
-    requires parts { blank.parts ≡ L.parts }
-    requires has_a_part { 0 < L.parts }
-    requires well_formed { (dentates : ℕ → ℕ) × ((s : ℕ) → dentates s ≤ MAX_DENTATES) × IsWellFormed dentates config.now }
-    ensures { result ≡ count_by (is_home_of species) config.now }
-{
-    // This count of reads is not used.
-    let mut steps = Steps::<L>::new(blank);
-    let home = u32::from(species.0) * 8 + 1;
-    count_class(config.classes(&mut steps), home)
+    lists.renew(alloc, deck, state.config(), 0, 0, None)?;
+    Ok((state, lists.advanced(), energy))
 }
 
 impl Closed {
     ghost use Rattle.kmc_core.specs.Firing.{Fires};
 
     /// The run of a sound deck at event 0: the vacant lattice at time 0. A refusal hands the deck back.
-    pub fn start(alloc: Global, deck: PlainDeck) -> Result<Closed, (PlainDeck, OutOfMemory)>
+    pub fn start(alloc: Global, deck: Deck) -> Result<Closed, (Deck, OutOfMemory)>
         requires { IsSound deck }
         ensures ok { IfOk result (λ closed. closed ≡ record { deck = deck; event = 0 }) }
         ensures err { IfErr result (λ refused. refused.0 ≡ deck) }
     {
         match opening(alloc, &deck) {
-            Ok((config, lists)) => Ok(Closed {
+            Ok((state, lists, energy)) => Ok(Closed {
                 deck,
                 event: 0,
                 time: 0,
-                config,
+                state,
                 lists,
+                energy,
             }),
             Err(error) => Err((deck, error)),
         }
@@ -114,6 +101,41 @@ impl Closed {
         self.time
     }
 
+    /// The energy of the lattice after the event, in neV.
+    pub fn energy(&self) -> i128
+        ensures value { IsSomeAnd (trajectory_of self.now.deck self.now.event) (λ s. result ≡ energy_of self.now.deck s.state.states) }
+        ensures range { unsigned_abs result ≤ 2 ^ 99 }
+    {
+        self.energy
+    }
+
+    /// The configuration of the lattice after the event.
+    pub fn config(&self) -> &Config
+        ensures value { IsSomeAnd (trajectory_of self.now.deck self.now.event) (λ s. result.now ≡ s.state.states) }
+        ensures sites { length result.now ≡ site_count self.now.deck.chem.graph }
+        ensures well_formed { IsWellFormed (dentates_in self.now.deck.book) result.now }
+    {
+        self.state.config()
+    }
+
+    /// For each gas species, the molecules that were produced since the start, less those that were consumed.
+    pub fn gas(&self) -> &[i64]
+        ensures value { IsSomeAnd (trajectory_of self.now.deck self.now.event) (λ s. result.now ≡ s.state.gas) }
+        ensures count { length result.now ≡ length self.now.deck.book.gas }
+        ensures range { All (λ molecules. unsigned_abs molecules ≤ 512 * self.now.event) result.now }
+    {
+        self.state.gas()
+    }
+
+    /// For each process, how often it has fired.
+    pub fn counts(&self) -> &[u64]
+        ensures value { IsSomeAnd (trajectory_of self.now.deck self.now.event) (λ s. result.now ≡ s.state.counts) }
+        ensures count { length result.now ≡ length self.now.deck.chem.processes }
+        ensures range { All (λ count. count ≤ self.now.event) result.now }
+    {
+        self.state.counts()
+    }
+
     /// The firing that comes first: its time in attoseconds, and the code of its instance. `None` if no
     /// instance has a time.
     pub fn least(&self) -> Option<(u128, u128)>
@@ -121,13 +143,6 @@ impl Closed {
     {
         let first = self.lists.current.least()?;
         Some((first.time, first.code))
-    }
-
-    /// The number of adsorbates of a species.
-    pub fn counts_of(&self, species: SpeciesId) -> u64
-        ensures { IsSomeAnd (trajectory_of self.now.deck self.now.event) (λ s. result ≡ count_by (is_home_of species) s.state) }
-    {
-        count_homes::<Brand>(&self.config, species, Blank::new(1))
     }
 
     /// What fires next, or why nothing does.
@@ -148,7 +163,7 @@ impl Closed {
     }
 
     /// The deck of the run.
-    pub fn deck(&self) -> &PlainDeck
+    pub fn deck(&self) -> &Deck
         ensures value { result.now ≡ self.now.deck }
         ensures sound { IsSound result.now }
     {

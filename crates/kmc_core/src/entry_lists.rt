@@ -1,15 +1,16 @@
 ghost use Rattle.std.specs.Prelude.{◌≡◌, ◌≤◌, OnOk, length, []};
 ghost use Rattle.kmc_base.specs.Entries.{IsRising, codes_of};
 ghost use Rattle.kmc_base.specs.declared.limits.TheConstants.{END_OF_TIME};
-ghost use Rattle.kmc_core.specs.Deck.{IsSound};
-ghost use Rattle.kmc_core.specs.PlainSystem.{system_of};
+ghost use Rattle.deck.specs.Soundness.{IsSound, dentates_in};
+ghost use Rattle.rate_rules.specs.System.{offers};
 ghost use Rattle.trajectory.specs.Trajectory.{renewed};
+ghost use Rattle.lattice_core.specs.Config.{IsWellFormed};
 ghost use Rattle.lattice_core.specs.Lattice.{site_count};
 
-use crate::deck::PlainDeck;
 use crate::entries::Entries;
 use crate::listing::AnchorList;
 use crate::renewal::Renewal;
+use deck::Deck;
 use kmc_base::OutOfMemory;
 use lattice_core::Config;
 use std::alloc::Global;
@@ -44,19 +45,20 @@ impl EntryLists {
     pub(crate) fn renew(
         &mut self,
         alloc: Global,
-        deck: &PlainDeck,
+        deck: &Deck,
         config: &Config,
         event: u64,
         time: u128,
         fired: Option<u128>,
     ) -> Result<(), OutOfMemory>
         requires deck { IsSound deck.now }
-        requires configuration { length config.now ≡ site_count deck.now.graph }
+        requires configuration { length config.now ≡ site_count deck.now.chem.graph }
+        requires well_formed { IsWellFormed (dentates_in deck.now.book) config.now }
         requires time { time ≤ END_OF_TIME }
         requires current { IsRising (codes_of self.old.current) }
         ensures current { self.new.current ≡ self.old.current }
         ensures next { OnOk result (self.new.next
-            ≡ renewed deck.now.plan.seed event time fired self.old.current ((system_of deck.now).offers config.now)) }
+            ≡ renewed deck.now.plan.seed event time fired self.old.current (offers deck.now.chem config.now)) }
     {
         self.next.clear();
         // An event changes few instances: about as many entries come after it as before it.

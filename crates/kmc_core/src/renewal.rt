@@ -2,18 +2,18 @@ ghost use Rattle.std.specs.Prelude.{◌≡◌, ℕ, ◌+◌, ◌*◌, ◌^◌, �
 ghost use Rattle.std.specs.List.{AllByRecursion};
 ghost use Rattle.kmc_base.specs.Entries.{IsRising, codes_of, kept_or, entry_at};
 ghost use Rattle.kmc_base.specs.declared.limits.TheConstants.{END_OF_TIME};
-ghost use Rattle.kmc_core.specs.Deck.{IsSound};
+ghost use Rattle.deck.specs.Soundness.{IsSound, dentates_in};
 ghost use Rattle.trajectory.specs.ByCode.{by_code};
-ghost use Rattle.kmc_core.specs.Instances.{instances_of};
+ghost use Rattle.rate_rules.specs.System.{instances_of, offers};
 ghost use Rattle.kmc_core.specs.ListedProcess.{IsListed};
-ghost use Rattle.kmc_core.specs.InstanceRange.{IsInRange};
-ghost use Rattle.kmc_core.specs.PlainSystem.{system_of};
+ghost use Rattle.rate_rules.specs.InstanceRange.{IsInRange};
 ghost use Rattle.trajectory.specs.Trajectory.{fresh, renewed};
+ghost use Rattle.lattice_core.specs.Config.{IsWellFormed, state_at};
 ghost use Rattle.lattice_core.specs.Lattice.{site_count};
 
-use crate::deck::PlainDeck;
 use crate::entries::Entries;
 use crate::listing::{AnchorList, ListedProcess};
+use deck::Deck;
 use fixed_math::wait;
 use kmc_base::{Entry, OutOfMemory, SiteId};
 use lattice_core::{Config, Steps};
@@ -149,13 +149,13 @@ impl Renewal {
         requires old { IsRising (codes_of old.now) }
         requires listed { IsListed listed.now }
         ensures value { OnOk result (entries.new ≡ entries.old ++ renewed self.old.draws self.old.event self.old.time self.old.fired old.now
-            (by_code (instances_of listed.now.deck.now.temperature listed.now.deck.now.graph listed.now.config.now listed.now.number listed.now.process.now))) }
+            (by_code (instances_of listed.now.deck.now.chem (state_at listed.now.config.now) listed.now.number listed.now.process.now))) }
         ensures rest { IfOk result (λ rest. IsRising (codes_of rest.now)) }
         ensures later { IfOk result (λ rest. (c : ℕ) → (listed.now.number + 1) * 2 ^ 55 ≤ c → entry_at c rest.now ≡ entry_at c old.now) }
         ensures same { self.new ≡ self.old }
     {
         let mut rest = old;
-        for anchor in 0..listed.deck.graph.len() {
+        for anchor in 0..listed.deck.chem.graph.len() {
             list.fill(alloc, listed, SiteId(anchor), steps)?;
             rest = self.merge(entries, rest, &list.instances)?;
         }
@@ -169,7 +169,7 @@ impl Renewal {
         old: &[Entry],
         list: &mut AnchorList,
         alloc: Global,
-        deck: &PlainDeck,
+        deck: &Deck,
         config: &Config,
         blank: Blank,
     ) -> Result<(), OutOfMemory>
@@ -179,14 +179,15 @@ impl Renewal {
         requires time { self.old.time ≤ END_OF_TIME }
         requires old { IsRising (codes_of old.now) }
         requires deck { IsSound deck.now }
-        requires configuration { length config.now ≡ site_count deck.now.graph }
+        requires configuration { length config.now ≡ site_count deck.now.chem.graph }
+        requires well_formed { IsWellFormed (dentates_in deck.now.book) config.now }
         ensures { OnOk result (entries.new ≡ entries.old
-            ++ renewed self.old.draws self.old.event self.old.time self.old.fired old.now ((system_of deck.now).offers config.now)) }
+            ++ renewed self.old.draws self.old.event self.old.time self.old.fired old.now (offers deck.now.chem config.now)) }
     {
         // This count of reads is not used.
         let mut steps = Steps::<L>::new(blank);
         let mut rest = old;
-        for (number, process) in deck.processes.as_slice().iter().enumerate() {
+        for (number, process) in deck.chem.processes.as_slice().iter().enumerate() {
             let listed = ListedProcess::new(deck, config, number as u16, process);
             rest = self.renew_process(entries, rest, list, alloc, &listed, &mut steps)?;
         }

@@ -1,9 +1,9 @@
 ghost use Rattle.std.specs.Prelude.{◌≡◌, ◌≤◌};
 ghost use Rattle.kmc_core.specs.Stops.{end_of_time as end_of, is_full as is_full_at, samples_due as due_at, some_output_is_full as some_is_full_at, stop_at as stops_at, stop_before as stops_before};
-ghost use Rattle.sim_deck.specs.Soundness.{IsPeriod, IsSoundPlan};
+ghost use Rattle.run_plan.specs.Soundness.{IsPeriod, IsSoundPlan};
 
 use kmc_base::{END_OF_TIME, Firing};
-use sim_deck::{Plan, Sampling};
+use run_plan::{Plan, Sampling};
 
 /// Why a run has ended: the first of these that holds after its event.
 #[derive(Clone, Copy, Debug, PartialEq, Eq, Hash)]

@@ -1,18 +1,13 @@
-ghost use Rattle.std.specs.Prelude.{◌≡◌, ◌≢◌, ◌+◌, ◌<◌, Contains, IfOk, IfErr, OnOk, OnErr, IsSomeAnd, Some, length, map};
+ghost use Rattle.std.specs.Prelude.{◌≡◌, ◌≢◌, ◌+◌, ◌<◌, IfOk, IfErr, OnOk, OnErr, IsSomeAnd, Some};
 ghost use Rattle.kmc_base.specs.Entries.{least as least_of};
-ghost use Rattle.kmc_core.specs.Deck.{IsSound, dentates_in};
-ghost use Rattle.kmc_core.specs.PlainSystem.{system_of, trajectory_of};
-ghost use Rattle.lattice_core.specs.Config.{IsWellFormed};
-ghost use Rattle.lattice_core.specs.Lattice.{site_count};
+ghost use Rattle.kmc_core.specs.DeckSystem.{trajectory_of};
 
 use crate::closed::Closed;
-use crate::deck::PlainDeck;
 use crate::entry_lists::EntryLists;
-use crate::listing::process_of;
-use firing::fire;
+use crate::run_state::RunState;
+use crate::total_energy::total_energy;
+use deck::Deck;
 use kmc_base::{Firing, OutOfMemory};
-use lattice_core::Config;
-use pattern_list::decode;
 use std::alloc::Global;
 use std::marker::Model;
 
@@ -27,41 +22,27 @@ pub struct Undone {
 /// cannot fire before.
 #[derive(Debug, Drop)]
 pub struct Unclosed {
-    deck: PlainDeck,
+    deck: Deck,
     event: u64,
     // What fired, and when: the time of the event.
     first: Firing,
-    config: Config,
+    state: RunState,
     lists: EntryLists,
-    // Whether the next entries are those after the event.
-    listed: bool,
+    // The energy after the event, in neV, once the next entries are those after it.
+    energy: Option<i128>,
 }
 
 impl Model for Unclosed {
-    ghost use Rattle.std.specs.Prelude.{Some, None, if◌then◌else◌};
+    ghost use Rattle.std.specs.Prelude.{if◌then◌else◌, is_some};
     ghost use Rattle.kmc_core.specs.Run.{OpenRun};
 
     ghost Value = { OpenRun };
 
     ghost use Rattle.kmc_core.specs.Run.{IsOpenAt};
 
-    ghost view = { λ u. record { deck = u.deck; event = u.event; undone = if u.listed then 0 else 1 } };
+    ghost view = { λ u. record { deck = u.deck; event = u.event; undone = if is_some u.energy then 0 else 1 } };
 
-    ghost invariant = { λ u. IsOpenAt u.deck u.event u.first u.config u.lists.current (if u.listed then Some u.lists.next else None) };
-}
-
-/// Fires the instance of a code on a configuration that offers it. It takes no memory.
-fn fire_code(config: &mut Config, deck: &PlainDeck, code: u128)
-    requires deck { IsSound deck.now }
-    requires configuration { length config.old ≡ site_count deck.now.graph }
-    requires offered { Contains (map (λ i. i.code) ((system_of deck.now).offers config.old)) code }
-    requires well_formed { IsWellFormed (dentates_in deck.now.book) config.old }
-    ensures states { config.new ≡ (system_of deck.now).fires config.old code }
-    ensures well_formed { IsWellFormed (dentates_in deck.now.book) config.new }
-{
-    let process = process_of(deck, code);
-    let placement = decode(&deck.graph, &process.before, code);
-    fire(config, &process.before, &process.after, placement.sites());
+    ghost invariant = { λ u. IsOpenAt u.deck u.event u.first u.state u.lists.current u.lists.next u.energy };
 }
 
 impl Unclosed {
@@ -74,18 +55,18 @@ impl Unclosed {
         let Closed {
             deck,
             event,
-            mut config,
+            mut state,
             lists,
             ..
         } = closed;
-        fire_code(&mut config, &deck, first.code);
+        state.fire_code(&deck, first.code);
         Unclosed {
             deck,
             event: event + 1,
             first,
-            config,
+            state,
             lists,
-            listed: false,
+            energy: None,
         }
     }
 
@@ -93,10 +74,10 @@ impl Unclosed {
     pub fn undone(&self) -> u64
         ensures { result ≡ self.now.undone }
     {
-        if self.listed { 0 } else { 1 }
+        if self.energy.is_some() { 0 } else { 1 }
     }
 
-    /// Lists the instances of the whole lattice again: an instance that was there with the same rate,
+    /// Lists the instances of the whole lattice again, and computes its energy: an instance that was there with the same rate,
     /// and was not the one fired, keeps its entry; every other is drawn at this event. If they are
     /// listed already, it does nothing and takes no memory. A refusal leaves the run as it was.
     pub fn rescan(&mut self, alloc: Global) -> Result<(), OutOfMemory>
@@ -104,17 +85,18 @@ impl Unclosed {
         ensures err { OnErr result (self.new ≡ self.old) }
         ensures needed { OnErr result (self.old.undone ≢ 0) }
     {
-        if !self.listed {
+        if self.energy.is_none() {
             let Firing { time, code } = self.first;
+            let energy = total_energy(alloc, &self.deck, self.state.config())?;
             self.lists.renew(
                 alloc,
                 &self.deck,
-                &self.config,
+                self.state.config(),
                 self.event,
                 time,
                 Some(code),
             )?;
-            self.listed = true;
+            self.energy = Some(energy);
         }
         Ok(())
     }
@@ -124,15 +106,16 @@ impl Unclosed {
         ensures ok { IfOk result (λ closed. (self.undone ≡ 0) × (closed ≡ record { deck = self.deck; event = self.event })) }
         ensures err { IfErr result (λ refused. (refused.0 ≡ self) × (refused.1.mask ≡ self.undone) × (self.undone ≢ 0)) }
     {
-        if !self.listed {
-            return Err((self, Undone { mask: 1 }));
+        match self.energy {
+            None => Err((self, Undone { mask: 1 })),
+            Some(energy) => Ok(Closed {
+                deck: self.deck,
+                event: self.event,
+                time: self.first.time,
+                state: self.state,
+                lists: self.lists.advanced(),
+                energy,
+            }),
         }
-        Ok(Closed {
-            deck: self.deck,
-            event: self.event,
-            time: self.first.time,
-            config: self.config,
-            lists: self.lists.advanced(),
-        })
     }
 }

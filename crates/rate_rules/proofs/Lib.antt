@@ -1,5 +1,10 @@
+pub mod AllLemmas
+pub mod CodeOrder
 pub mod EnergySums
+pub mod Instances
 pub mod ListingLengths
 pub mod Logarithms
 pub mod MatchedStates
+pub mod OfferedInstances
+pub mod OfferedPlacements
 pub mod SideStates

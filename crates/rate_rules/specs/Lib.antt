@@ -2,6 +2,7 @@ pub mod Barrier
 pub mod Energy
 pub mod Factor
 pub mod Held
+pub mod InstanceRange
 pub mod Rate
 pub mod Reaction
 pub mod Sides

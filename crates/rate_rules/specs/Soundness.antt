@@ -8,12 +8,12 @@ use Rattle.lattice_core.specs.Lattice.{IsLattice, site_count}
 use Rattle.lattice_core.specs.declared.state.State.{State}
 use Rattle.pattern_list.specs.Match.{is_match}
 use Rattle.pattern_list.specs.Placement.{is_placement}
-use Rattle.pattern_list.specs.declared.code.TheConstants.{MAX_PROCESSES}
+use Rattle.pattern_types.specs.declared.limits.TheConstants.{MAX_PROCESSES}
 use Rattle.pattern_types.specs.Parts.{vertex_count}
 use Rattle.rate_rules.specs.declared.chemistry.Chemistry.{Chemistry}
 use Rattle.rate_rules.specs.declared.chemistry.Cluster.{Cluster}
 use Rattle.rate_rules.specs.declared.chemistry.Process.{Process}
-use Rattle.rate_rules.specs.declared.chemistry.TheConstants.{MAX_CLUSTERS}
+use Rattle.pattern_types.specs.declared.limits.TheConstants.{MAX_CLUSTERS}
 
 -- a cluster's share is an energy
 abbrev pub IsSoundCluster : Cluster → Type 0

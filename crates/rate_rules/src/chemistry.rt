@@ -2,9 +2,6 @@ use kmc_base::Sequence;
 use lattice_core::Graph;
 use pattern_types::Pattern;
 
-/// The greatest number of clusters of a cluster expansion.
-pub const MAX_CLUSTERS: usize = 256;
-
 /// A cluster of the cluster expansion of the energy (Nielsen et al. 2013).
 #[derive(Debug, Drop)]
 pub struct Cluster {

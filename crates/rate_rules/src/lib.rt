@@ -22,10 +22,10 @@ mod rate;
 mod reaction;
 
 pub use barriers::barrier;
-pub use chemistry::{Chemistry, Cluster, MAX_CLUSTERS, Process};
+pub use chemistry::{Chemistry, Cluster, Process};
 pub use energies::energy;
 pub use factor::factor_of;
 pub use instance_rate::whole_rate;
 pub use matched::match_is_in_wanted_states;
-pub use rate::{lg_over_barrier, lg_rate};
+pub use rate::lg_rate;
 pub use reaction::{whole_change, zero_change};

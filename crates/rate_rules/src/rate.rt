@@ -23,7 +23,7 @@ fn barrier_part(barrier: u64, temperature: u32) -> u128
 
 /// The base-2 logarithm of a rate in 1/s, in units of 2^-30, by the logarithm of its factor, the barrier in neV and the
 /// temperature in mK. `None` where there is no factor. It takes no memory.
-pub fn lg_over_barrier(factor: Option<i64>, barrier: u64, temperature: u32) -> Option<i64>
+fn lg_over_barrier(factor: Option<i64>, barrier: u64, temperature: u32) -> Option<i64>
     requires heat { 1 ≤ temperature }
     requires barrier { barrier ≤ 4 * 10 ^ 18 }
     ensures value { result ≡ lg_rate factor barrier temperature }

@@ -1,12 +1,13 @@
-ghost use Rattle.std.specs.Prelude.{◌≡◌, ◌≢◌, ◌^◌, ◌<◌, ◌≤◌, ℕ, All, AllPairs, IfOk, length, unsigned_abs};
+ghost use Rattle.std.specs.Prelude.{◌≡◌, ◌≢◌, ◌^◌, ◌<◌, ◌≤◌, ℕ, [], All, AllPairs, IfOk, length, unsigned_abs};
 ghost use Rattle.firing.specs.Soundness.{IsSoundSide};
 ghost use Rattle.lattice_core.specs.Config.{state_at};
 ghost use Rattle.lattice_core.specs.Lattice.{site_count};
 ghost use Rattle.lattice_core.specs.SiteList.{site_numbers};
+ghost use Rattle.lattice_core.specs.declared.state.State.{State};
 ghost use Rattle.pattern_types.specs.Parts.{vertex_count};
 ghost use Rattle.rate_rules.specs.Reaction.{bare_reaction_energy, energy_difference, reaction_energy};
 ghost use Rattle.rate_rules.specs.Sides.{bare_side};
-ghost use Rattle.rate_rules.specs.Soundness.{IsInstance, IsPlacedProcess, IsSoundChemistry};
+ghost use Rattle.rate_rules.specs.Soundness.{HasSoundNumbers, IsInstance, IsPlacedProcess, IsSoundChemistry};
 
 use crate::chemistry::{Chemistry, Process};
 use crate::energies::energy;
@@ -43,8 +44,19 @@ fn difference<L: Ledger>(
     Ok(hold(after - before + i128::from(gas), MAX_REACTION_ENERGY))
 }
 
+/// The reaction energy of a process where there are no clusters, which is that of its gas, on any lattice.
+fn change_without_clusters(chem: &Chemistry, process: &Process) -> i128
+    requires none { chem.now.clusters ≡ [] }
+    requires process { HasSoundNumbers process.now }
+    ensures value { (initial : ℕ → State) (final : ℕ → State) → result ≡ energy_difference chem.now process.now.gas initial final }
+    ensures range { unsigned_abs result ≤ 10 ^ 18 }
+{
+    hold(i128::from(process.gas), MAX_REACTION_ENERGY)
+}
+
 /// The reaction energy of an instance of a process, in neV, in the forward direction of its step: the difference of two sums
-/// over the whole lattice, one of the configuration and one of a copy in which the instance has fired.
+/// over the whole lattice, one of the configuration and one of a copy in which the instance has fired. If there are no
+/// clusters, it is that of the gas, and needs no sum.
 ///
 /// It counts each read of a state.
 pub fn whole_change<L: Ledger>(
@@ -59,6 +71,9 @@ pub fn whole_change<L: Ledger>(
     ensures value { IfOk result (λ d. d ≡ reaction_energy chem.now (state_at config.now) process.now (site_numbers placement.now)) }
     ensures range { IfOk result (λ d. unsigned_abs d ≤ 10 ^ 18) }
 {
+    if chem.clusters.is_empty() {
+        return Ok(change_without_clusters(chem, process));
+    }
     let mut other = config.copy(alloc)?;
     fire(
         &mut other,
@@ -120,7 +135,8 @@ fn bare_change<L: Ledger>(
 /// The reaction energy of an instance of a process in the forward direction of its step, in neV, on a lattice that has
 /// nothing but the entities of the instance.
 ///
-/// It is a sum over the whole lattice: a cluster that asks for a vacant site may also be on sites far from the placement.
+/// It is a sum over the whole lattice: a cluster that asks for a vacant site may also be on sites far from the placement. If
+/// there are no clusters, it is that of the gas.
 pub fn zero_change(
     alloc: Global,
     chem: &Chemistry,
@@ -131,5 +147,8 @@ pub fn zero_change(
     ensures value { IfOk result (λ d. d ≡ bare_reaction_energy chem.now process.now (site_numbers placement.now)) }
     ensures range { IfOk result (λ d. unsigned_abs d ≤ 10 ^ 18) }
 {
+    if chem.clusters.is_empty() {
+        return Ok(change_without_clusters(chem, process));
+    }
     bare_change::<Brand>(alloc, chem, process, placement, Blank::new(1))
 }

@@ -4,7 +4,7 @@ use Rattle.std.proofs.lemmas.List.Elements.{All-from_recursion}
 use Rattle.std.specs.List.{AllByRecursion}
 use Rattle.std.specs.Option.{option_copied}
 use Rattle.kmc_base.specs.Entries.{IsRising, entry_at, kept_or}
-use Rattle.kmc_core.specs.InstanceRange.{IsInRange}
+use Rattle.rate_rules.specs.InstanceRange.{IsInRange}
 use Rattle.trajectory.specs.Trajectory.{fresh, renewed}
 use Rattle.kmc_core.specs.declared.renewal.Renewal.{Renewal}
 use Rattle.trajectory.specs.declared.instance.Instance.{Instance}

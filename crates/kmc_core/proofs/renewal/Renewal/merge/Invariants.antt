@@ -1,7 +1,7 @@
 use Rattle.std.proofs.Common.{◌≡◌, ℕ, ◌≤◌, ◌++◌, drop, map}
 use Rattle.std.specs.List.{AllByRecursion}
 use Rattle.kmc_base.specs.Entries.{IsRising, codes_of, entry_at}
-use Rattle.kmc_core.specs.InstanceRange.{IsInRange}
+use Rattle.rate_rules.specs.InstanceRange.{IsInRange}
 use Rattle.trajectory.specs.Trajectory.{renewed}
 use Rattle.kmc_core.proofs.renewal.Renewal.merge.Given as goal
 

@@ -1,8 +1,8 @@
 use Rattle.std.proofs.Common.{◌≡◌, ℕ, ◌*◌, ◌^◌, ◌≤◌, ◌++◌, drop}
 use Rattle.kmc_base.specs.Entries.{IsRising, codes_of, entry_at}
 use Rattle.trajectory.specs.ByCode.{by_code}
-use Rattle.kmc_core.specs.Instances.{instances_from}
-use Rattle.kmc_core.specs.PlainSystem.{system_of}
+use Rattle.lattice_core.specs.Config.{state_at}
+use Rattle.rate_rules.specs.System.{instances_from, offers}
 use Rattle.trajectory.specs.Trajectory.{renewed}
 use Rattle.kmc_core.proofs.renewal.Renewal.renew.Given as goal
 
@@ -11,8 +11,8 @@ use Rattle.kmc_core.proofs.renewal.Renewal.renew.Given as goal
 abbrev pub invariant-loop-number : goal.invariant-loop-number
 invariant-loop-number g l = record {
   done : l.entries ++ renewed l.fn.self.draws l.fn.self.event l.fn.self.time l.fn.self.fired l.old
-      (by_code (instances_from l.deck.temperature l.deck.graph l.config l.number (drop l.number l.deck.processes)))
-      ≡ l.fn.entries ++ renewed l.fn.self.draws l.fn.self.event l.fn.self.time l.fn.self.fired l.old ((system_of l.deck).offers l.config);
+      (by_code (instances_from l.deck.chem (state_at l.config) l.number (drop l.number l.deck.chem.processes)))
+      ≡ l.fn.entries ++ renewed l.fn.self.draws l.fn.self.event l.fn.self.time l.fn.self.fired l.old (offers l.deck.chem l.config);
   same : l.self ≡ l.fn.self;
   rest : IsRising (codes_of l.rest);
   found : (c : ℕ) → l.number * 2 ^ 55 ≤ c → entry_at c l.rest ≡ entry_at c l.old;

@@ -12,7 +12,7 @@ use Rattle.std.proofs.lemmas.List.Sums.{sum_by-cons, get_or-le-sum_by}
 use Rattle.kmc_base.proofs.EntryLists.{below-all}
 use Rattle.kmc_base.specs.Entries.{IsRising}
 use Rattle.pattern_list.proofs.Members.{in-none, in-first, in-rest, in-cases}
-use Rattle.kmc_core.proofs.AllLemmas.{all-map, all-from_map, all-weaker}
+use Rattle.rate_rules.proofs.AllLemmas.{all-map, all-from_map, all-weaker}
 use Rattle.trajectory.specs.ByCode.{inserted, by_code}
 use Rattle.trajectory.specs.declared.instance.Instance.{Instance}
 
