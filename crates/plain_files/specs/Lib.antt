@@ -1,4 +1,3 @@
-pub mod Energetics
 pub mod Mechanism
 pub mod Names
 pub mod Steps

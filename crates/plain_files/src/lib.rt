@@ -1,17 +1,15 @@
-//! The energetics file and the mechanism file in their plain form, the only one that kmc takes so far: each line has its
-//! words one space apart and ends with LF, and there is nothing else.
+//! The mechanism file in its plain form, the only one that kmc takes so far: each line has its words one space apart and
+//! ends with LF, and there is nothing else.
 //!
-//! `is_energetics` says whether an energetics file is its opening and its closing word. `read_mechanism` gives exactly the
-//! steps of a mechanism file, each on one site and over the species of a book, or says that the text is not of the plain
-//! form. Each file is read in one pass from its front. The crate uses `species_book` for the names of species, and `kmc_base`.
+//! `read_mechanism` gives exactly the steps of a mechanism file, each on one site and over the species of a book, or says
+//! that the text is not of the plain form. The file is read in one pass from its front. The crate uses `species_book` for
+//! the names of species, and `kmc_base`.
 #![tactic(auto)]
 
-mod energetics;
 mod mechanism;
 mod name;
 mod step_text;
 mod text;
 
-pub use energetics::is_energetics;
 pub use mechanism::read_mechanism;
 pub use step_text::StepText;

@@ -1,0 +1,12 @@
+pub mod Answers
+pub mod Built
+pub mod Clusters
+pub mod Decks
+pub mod Loads
+pub mod Names
+pub mod Passes
+pub mod Processes
+pub mod SoundValues
+pub mod Species
+pub mod Texts
+pub mod Views

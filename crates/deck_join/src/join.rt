@@ -1,0 +1,105 @@
+//! From the texts of the files to the deck, or their first fault.
+
+ghost use Rattle.std.specs.Prelude.{◌≡◌, IfOk, map, true};
+ghost use Rattle.std.specs.List.{All};
+ghost use Rattle.deck.specs.Soundness.{IsSound};
+ghost use Rattle.plain_files.specs.Steps.{step_view};
+ghost use Rattle.deck_join.specs.Answers.{Reads};
+ghost use Rattle.deck_join.specs.Built.{is_built};
+ghost use Rattle.deck_join.specs.Decks.{deck_of, deck_with, joined};
+ghost use Rattle.deck_join.specs.Passes.{FileBytes};
+ghost use Rattle.deck_join.specs.SoundValues.{AreSoundValues};
+ghost use Rattle.deck_join.specs.Species.{book_of};
+ghost use Rattle.deck_join.specs.Texts.{IsShort, deck_files, texts_in};
+ghost use Rattle.deck_join.specs.Views.{bytes_of, values_at};
+
+use crate::built::steps_in;
+use crate::file_slices::{FileSlices, files_in};
+use crate::names::names_in;
+use crate::parts::{Parts, read_parts};
+use crate::processes::{names_of, processes_of};
+use crate::radius::radius_of;
+use crate::shapes::read_shapes;
+use crate::species::book_of;
+use crate::text::{Text, text_at};
+use deck::Deck;
+use deck_shape::DeckFault;
+use kmc_base::{FileId, OutOfMemory, Sequence};
+use plain_files::StepText;
+use rate_rules::{Chemistry, Cluster};
+use species_book::SpeciesBook;
+use std::alloc::Global;
+
+/// The deck of what is read, the clusters and the steps.
+fn deck_with(
+    alloc: Global,
+    parts: Parts,
+    book: SpeciesBook,
+    clusters: Vec<Cluster>,
+    steps: &[StepText],
+) -> Result<Deck, OutOfMemory>
+    ensures value { (files : FileBytes) → book ≡ book_of (values_at files parts).simulation
+        → IfOk result (λ deck. deck ≡ deck_with (values_at files parts) clusters.items (map step_view steps.now)) }
+{
+    let Parts {
+        simulation,
+        lattice,
+        energetics: _energetics,
+    } = parts;
+    let processes = processes_of(alloc, steps)?;
+    let process_names = names_of(alloc, steps)?;
+    let radius = radius_of(processes.as_slice(), clusters.as_slice());
+    Ok(Deck {
+        chem: Chemistry {
+            graph: lattice.graph,
+            processes: Sequence::new(processes),
+            clusters: Sequence::new(clusters),
+            temperature: simulation.temperature,
+            radius,
+        },
+        plan: simulation.plan,
+        book,
+        process_names: Sequence::new(process_names),
+        opening: Sequence::new(Vec::new(alloc)),
+    })
+}
+
+/// The deck of the files, or the first fault of a name or of what kmc does not take so far.
+#[tactic(auto, unfolding(crate::specs::Decks::joined))]
+fn joined(alloc: Global, files: &FileSlices, parts: Parts) -> Result<Deck, DeckFault>
+    requires { AreSoundValues (values_at (bytes_of files.now) parts) }
+    ensures value { Reads (λ deck. deck) result (joined (values_at (bytes_of files.now) parts) files.now.mechanism.now) }
+    ensures sound { IfOk result IsSound }
+    ensures built { IfOk result (λ deck. is_built deck.plan ≡ true) }
+{
+    let book = book_of(alloc, files.simulation, &parts.simulation)?;
+    let clusters = names_in(alloc, files, &parts, &book)?;
+    let steps = steps_in(alloc, &parts.simulation, &book, files.mechanism)?;
+    Ok(deck_with(alloc, parts, book, clusters, &steps)?)
+}
+
+/// The deck of the texts of its files, or their first fault.
+///
+/// The texts are those of the simulation file, the lattice file, the energetics file and the mechanism file, in this order.
+/// Faults are looked for in passes over the files: whether they are there and not too long; the form of their lines; their
+/// values; their names of species and site types; and what kmc does not take so far. The first fault is that of the
+/// earliest pass that has one, and of one pass that of the first file. In a file it is that of the earliest line, and of
+/// one line that of the least kind.
+#[tactic(auto, unfolding(crate::specs::Decks::deck_of))]
+pub fn load_deck(alloc: Global, texts: &[(FileId, Text)]) -> Result<Deck, DeckFault>
+    requires files { map (λ text. text.0) texts.now ≡ deck_files }
+    requires short { All (λ text. IsShort text.1) texts.now }
+    ensures value { Reads (λ deck. deck) result (deck_of (texts_in texts.now)) }
+    ensures sound { IfOk result IsSound }
+    ensures built { IfOk result (λ deck. is_built deck.plan ≡ true) }
+{
+    let files = files_in(
+        text_at(texts, 0),
+        text_at(texts, 1),
+        text_at(texts, 2),
+        text_at(texts, 3),
+    )?;
+    let shapes = read_shapes(alloc, &files)?;
+    let parts = read_parts(alloc, &files, &shapes)?;
+    joined(alloc, &files, parts)
+}
