@@ -3,9 +3,9 @@ use Rattle.std.proofs.Common.{◌≡◌, ℕ, zero, suc, ◌+◌, ◌-◌, ◌<�
 use Rattle.std.proofs.lemmas.List.{append_assoc, append-nil}
 use Rattle.std.specs.List.{flat_map}
 use Rattle.std.specs.Prelude.{if◌then◌else◌, is_none}
+use Rattle.deck.specs.declared.deck.Deck.{Deck}
 use Rattle.kmc_base.specs.Outs.{Outs}
 use Rattle.kmc_core.specs.Run.{stop_of}
-use Rattle.kmc_core.specs.declared.deck.PlainDeck.{PlainDeck}
 use Rattle.kmc_core.specs.declared.stop.Stop.{Stop}
 use Rattle.kmc_run.proofs.WriteLemmas.{done_done, done_ended, done_none, ended_more, ended_none}
 use Rattle.kmc_run.specs.Samples.{events_after, events_from, writes_at}
@@ -14,34 +14,34 @@ use Rattle.kmc_run.specs.declared.drive_fault.DriveFault.{DriveFault}
 use Rattle.kmc_run.specs.declared.drive_fault.DriveFault.TheVariants.{OutOfMemory}
 
 -- the events after one of which at most so many follow
-later : PlainDeck → ℕ → ℕ → List ℕ
+later : Deck → ℕ → ℕ → List ℕ
 later deck zero event = []
 later deck (suc left) event = if is_none (stop_of deck event) then events_after deck left (event + 1) else []
 
-first-later : (deck : PlainDeck) (left event : ℕ) → events_after deck left event ≡ event ∷ later deck left event
+first-later : (deck : Deck) (left event : ℕ) → events_after deck left event ≡ event ∷ later deck left event
 unfolding later
 first-later deck zero event = refl
 first-later deck (suc left) event = refl
 
 -- none follow one at which the run stops
-later-stopped : (deck : PlainDeck) (left event : ℕ) (stop : Stop) → stop_of deck event ≡ Some stop → later deck left event ≡ []
+later-stopped : (deck : Deck) (left event : ℕ) (stop : Stop) → stop_of deck event ≡ Some stop → later deck left event ≡ []
 unfolding later
 later-stopped deck zero event stop is = refl
 later-stopped deck (suc left) event stop is = ap (λ s. if is_none s then events_after deck left (event + 1) else []) is
 
 -- the next one follows one at which it does not
-later-next : (deck : PlainDeck) (left event : ℕ) → stop_of deck event ≡ None → later deck (suc left) event ≡ events_after deck left (event + 1)
+later-next : (deck : Deck) (left event : ℕ) → stop_of deck event ≡ None → later deck (suc left) event ≡ events_after deck left (event + 1)
 unfolding later
 later-next deck left event is = ap (λ s. if is_none s then events_after deck left (event + 1) else []) is
 
-next-events : (deck : PlainDeck) (event : ℕ) → stop_of deck event ≡ None → event < deck.plan.max_steps
+next-events : (deck : Deck) (event : ℕ) → stop_of deck event ≡ None → event < deck.plan.max_steps
     → events_from deck event ≡ event ∷ events_from deck (event + 1)
 next-events deck event is lt =
     let left : deck.plan.max_steps - event ≡ suc (deck.plan.max_steps - (event + 1)) = omega arith in
     first-later deck (deck.plan.max_steps - event) event
     ∙ ap (λ es. event ∷ es) (ap (λ n. later deck n event) left ∙ later-next deck (deck.plan.max_steps - (event + 1)) event is)
 
-last-event : (deck : PlainDeck) (event : ℕ) (stop : Stop) → stop_of deck event ≡ Some stop → events_from deck event ≡ event ∷ []
+last-event : (deck : Deck) (event : ℕ) (stop : Stop) → stop_of deck event ≡ Some stop → events_from deck event ≡ event ∷ []
 last-event deck event stop is =
     first-later deck (deck.plan.max_steps - event) event ∙ ap (λ es. event ∷ es) (later-stopped deck (deck.plan.max_steps - event) event stop is)
 
@@ -50,16 +50,16 @@ flat-append f [] b = refl
 flat-append f (x ∷ a) b = ap (λ ws. f x ++ ws) (flat-append f a b) ∙ sym (append_assoc (f x) (flat_map f a) (flat_map f b))
 
 -- the events that a run has passed on its way from one event to another, with what was written at them
-pub record Passed (deck : PlainDeck) (first event : ℕ) (x y : Option Outs) : Type 0 where
+pub record Passed (deck : Deck) (first event : ℕ) (x y : Option Outs) : Type 0 where
   pub events : List ℕ
   pub all : events ++ events_from deck event ≡ events_from deck first
   pub done : Done (flat_map (writes_at deck) events) x y
 
-pub passed_none : (deck : PlainDeck) (first : ℕ) (x : Option Outs) → Passed deck first first x x
+pub passed_none : (deck : Deck) (first : ℕ) (x : Option Outs) → Passed deck first first x x
 passed_none deck first x = record { events = []; all = refl; done = done_none x }
 
 -- the writes of all events, by those that were passed and the present one
-whole : (deck : PlainDeck) (first event : ℕ) (events : List ℕ) → events ++ events_from deck event ≡ events_from deck first →
+whole : (deck : Deck) (first event : ℕ) (events : List ℕ) → events ++ events_from deck event ≡ events_from deck first →
     flat_map (writes_at deck) events
     ++ (writes_at deck event ++ flat_map (writes_at deck) (later deck (deck.plan.max_steps - event) event))
     ≡ flat_map (writes_at deck) (events_from deck first)
@@ -67,7 +67,7 @@ whole deck first event events all =
     ap (λ es. flat_map (writes_at deck) events ++ flat_map (writes_at deck) es) (sym (first-later deck (deck.plan.max_steps - event) event))
     ∙ (sym (flat-append (writes_at deck) events (events_from deck event)) ∙ ap (flat_map (writes_at deck)) all)
 
-one_more_event : (deck : PlainDeck) (event : ℕ) (events : List ℕ) (x y z : Option Outs)
+one_more_event : (deck : Deck) (event : ℕ) (events : List ℕ) (x y z : Option Outs)
     → Done (flat_map (writes_at deck) events) x y → Done (writes_at deck event) y z →
     Done (flat_map (writes_at deck) (events ++ event ∷ [])) x z
 one_more_event deck event events x y z p q =
@@ -77,7 +77,7 @@ one_more_event deck event events x y z p q =
     (done_done (flat_map (writes_at deck) events) (writes_at deck event) x y z p q)
 
 -- one more event is passed
-pub passed_one : (deck : PlainDeck) (first event : ℕ) (x y z : Option Outs) → Passed deck first event x y → Done (writes_at deck event) y z →
+pub passed_one : (deck : Deck) (first event : ℕ) (x y z : Option Outs) → Passed deck first event x y → Done (writes_at deck event) y z →
     stop_of deck event ≡ None → event < deck.plan.max_steps → Passed deck first (event + 1) x z
 passed_one deck first event x y z p q is lt = record {
   events = p.events ++ event ∷ [];
@@ -86,7 +86,7 @@ passed_one deck first event x y z p q is lt = record {
 }
 
 -- the last event is passed: all is written
-pub passed_last : (deck : PlainDeck) (first event : ℕ) (stop : Stop) (x y z : Option Outs)
+pub passed_last : (deck : Deck) (first event : ℕ) (stop : Stop) (x y z : Option Outs)
     → Passed deck first event x y → Done (writes_at deck event) y z →
     stop_of deck event ≡ Some stop → Done (flat_map (writes_at deck) (events_from deck first)) x z
 passed_last deck first event stop x y z p q is =
@@ -94,13 +94,13 @@ passed_last deck first event stop x y z p q is =
     (ap (λ es. p.events ++ es) (sym (last-event deck event stop is)) ∙ p.all)
     (one_more_event deck event p.events x y z p.done q)
 
-pub passed_end : (deck : PlainDeck) (first event : ℕ) (stop : Stop) (x y : Option Outs) → Passed deck first event x y
+pub passed_end : (deck : Deck) (first event : ℕ) (stop : Stop) (x y : Option Outs) → Passed deck first event x y
     → stop_of deck event ≡ Some stop →
     (es : List ℕ) × (events_from deck first ≡ es ++ event ∷ [])
 passed_end deck first event stop x y p is = (p.events, sym p.all ∙ ap (λ es. p.events ++ es) (last-event deck event stop is))
 
 -- a write at the present event failed
-pub passed_fails : (deck : PlainDeck) (first event : ℕ) (fault : DriveFault) (x y z : Option Outs)
+pub passed_fails : (deck : Deck) (first event : ℕ) (fault : DriveFault) (x y z : Option Outs)
     → Passed deck first event x y → Ended (writes_at deck event) fault y z →
     Ended (flat_map (writes_at deck) (events_from deck first)) fault x z
 passed_fails deck first event fault x y z p q =
@@ -110,7 +110,7 @@ passed_fails deck first event fault x y z p q =
     (ended_more (writes_at deck event) others fault y z q))
 
 -- memory ran out at the next event
-pub passed_stops : (deck : PlainDeck) (first event : ℕ) (x y z : Option Outs) → Passed deck first event x y → Done (writes_at deck event) y z →
+pub passed_stops : (deck : Deck) (first event : ℕ) (x y z : Option Outs) → Passed deck first event x y → Done (writes_at deck event) y z →
     Ended (flat_map (writes_at deck) (events_from deck first)) OutOfMemory x z
 passed_stops deck first event x y z p q =
     let others = flat_map (writes_at deck) (later deck (deck.plan.max_steps - event) event) in
@@ -119,21 +119,21 @@ passed_stops deck first event x y z p q =
     (subst (λ (ws : List Write). Ended ws OutOfMemory y z) refl (done_ended (writes_at deck event) others OutOfMemory y z z q (ended_none others z))))
 
 -- the same deck, as it was read from the run
-pub done_at : (read deck : PlainDeck) (event : ℕ) (x y : Option Outs) → read ≡ deck → Done (writes_at read event) x y
+pub done_at : (read deck : Deck) (event : ℕ) (x y : Option Outs) → read ≡ deck → Done (writes_at read event) x y
     → Done (writes_at deck event) x y
-done_at read deck event x y is p = subst (λ (d : PlainDeck). Done (writes_at d event) x y) is p
+done_at read deck event x y is p = subst (λ (d : Deck). Done (writes_at d event) x y) is p
 
-pub ended_at : (read deck : PlainDeck) (event : ℕ) (fault : DriveFault) (x y : Option Outs) → read ≡ deck
+pub ended_at : (read deck : Deck) (event : ℕ) (fault : DriveFault) (x y : Option Outs) → read ≡ deck
     → Ended (writes_at read event) fault x y → Ended (writes_at deck event) fault x y
-ended_at read deck event fault x y is p = subst (λ (d : PlainDeck). Ended (writes_at d event) fault x y) is p
+ended_at read deck event fault x y is p = subst (λ (d : Deck). Ended (writes_at d event) fault x y) is p
 
-pub stop_of_at : (read deck : PlainDeck) (event : ℕ) (stop : Option Stop) → read ≡ deck → stop_of read event ≡ stop → stop_of deck event ≡ stop
-stop_of_at read deck event stop is p = subst (λ (d : PlainDeck). stop_of d event ≡ stop) is p
+pub stop_of_at : (read deck : Deck) (event : ℕ) (stop : Option Stop) → read ≡ deck → stop_of read event ≡ stop → stop_of deck event ≡ stop
+stop_of_at read deck event stop is p = subst (λ (d : Deck). stop_of d event ≡ stop) is p
 
-pub passed_at : (deck : PlainDeck) (first event now : ℕ) (x y : Option Outs) → event ≡ now → Passed deck first event x y → Passed deck first now x y
+pub passed_at : (deck : Deck) (first event now : ℕ) (x y : Option Outs) → event ≡ now → Passed deck first event x y → Passed deck first now x y
 passed_at deck first event now x y is p = subst (λ (n : ℕ). Passed deck first n x y) is p
 
-pub end_at : (deck : PlainDeck) (first event now : ℕ) → event ≡ now
+pub end_at : (deck : Deck) (first event now : ℕ) → event ≡ now
     → (es : List ℕ) × (events_from deck first ≡ es ++ event ∷ [])
     → (es : List ℕ) × (events_from deck first ≡ es ++ now ∷ [])
 end_at deck first event now is p = subst (λ (n : ℕ). (es : List ℕ) × (events_from deck first ≡ es ++ n ∷ [])) is p

@@ -1,9 +1,7 @@
-pub mod Chains
+pub mod AdsorbateCounts
 pub mod CountLemmas
 pub mod DriveLemmas
 pub mod EventLemmas
-pub mod LoadLemmas
-pub mod PlainProcesses
 pub mod SampleLemmas
-pub mod SoundDecks
 pub mod WriteLemmas
+pub mod WrittenPlans

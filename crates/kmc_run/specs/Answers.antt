@@ -1,13 +1,13 @@
 -- What the program may answer, and what it leaves in the outputs.
-use Rattle.std.specs.Prelude.{◌≡◌, ◌≢◌, ℕ, [], ◌∷◌, Bool, false, List, Option, None, Some, IfSome, Result, Ok, Err, codes, if◌then◌else◌}
+use Rattle.std.specs.Prelude.{◌≡◌, ◌≢◌, ℕ, [], ◌∷◌, Bool, false, List, Option, None, Some, IfSome, Result, Ok, Err, codes}
 use Rattle.deck_words.specs.Tables.{same_word}
 use Rattle.deck_shape.specs.declared.fault.Fault.{Fault}
-use Rattle.kmc_base.specs.Numbered.{Numbered, next_fails, one_call_more}
+use Rattle.kmc_base.specs.Numbered.{Numbered}
 use Rattle.kmc_base.specs.Outs.{Outs}
 use Rattle.kmc_base.specs.declared.ids.FileId.{FileId}
-use Rattle.kmc_base.specs.declared.ids.FileId.TheVariants.{Simulation, Lattice, Energetics, Mechanism, State}
 use Rattle.kmc_base.specs.declared.ids.OutId.{OutId}
-use Rattle.kmc_core.specs.declared.deck.PlainDeck.{PlainDeck}
+use Rattle.deck.specs.declared.deck.Deck.{Deck}
+use Rattle.deck_join.specs.Loads.{IsOfDeck, first_failing}
 use Rattle.kmc_run.specs.Samples.{run_writes}
 use Rattle.kmc_run.specs.Writes as writing
 use Rattle.kmc_run.specs.declared.drive_fault.DriveFault.TheVariants.{WriteFault as WriteFailed, OutOfMemory as NoMemory}
@@ -25,23 +25,9 @@ abbrev pub failed_read : Status → Option FileId
 failed_read (ReadFault file) = Some file
 failed_read status = None
 
--- the files that a deck is read from
-abbrev pub IsOfDeck : FileId → Type 0
-IsOfDeck State = ⊥
-IsOfDeck file = Unit {0}
-
 -- no file but those of a deck is read: if one could not be read, it is one of them
 abbrev pub ReadsDeck : Status → Type 0
 ReadsDeck status = IfSome (failed_read status) IsOfDeck
-
--- the files of a deck, in the order in which they are loaded
-abbrev pub deck_files : List FileId
-deck_files = Simulation ∷ Lattice ∷ Energetics ∷ Mechanism ∷ []
-
--- of files that are loaded one after another, the first whose load fails, by the numbers of the loads that fail
-abbrev pub first_failing : Numbered → List FileId → Option FileId
-first_failing calls [] = None
-first_failing calls (file ∷ files) = if next_fails calls then Some file else first_failing (one_call_more calls) files
 
 -- Unless memory was short, the file that could not be read is the first of these whose load fails, and none where none
 -- fails, if the folder reports which of its loads fail.
@@ -55,7 +41,7 @@ failed_write status = None
 
 -- What a run may answer, by what its files give. A deck is run: the answer is Done, a fault of reading or writing,
 -- or out of memory. Files with a fault are refused with the first, unless reading failed or memory was short.
-abbrev pub MayAnswer : Result PlainDeck Fault → Status → Type 0
+abbrev pub MayAnswer : Result Deck Fault → Status → Type 0
 MayAnswer (Ok deck) BadWords = ⊥
 MayAnswer (Ok deck) (Refused fault) = ⊥
 MayAnswer (Ok deck) ScreenFault = ⊥
@@ -67,7 +53,7 @@ MayAnswer (Err first) status = ⊥
 
 -- What a run of a deck leaves in the outputs. Done: all its writes are done. A fault of writing, or out of memory: those
 -- before the one that failed, or the first of them. Any other answer: nothing is written.
-abbrev pub LeavesOuts : PlainDeck → Status → Option Outs → Option Outs → Type 0
+abbrev pub LeavesOuts : Deck → Status → Option Outs → Option Outs → Type 0
 LeavesOuts deck Done before after = writing.Done (run_writes deck) before after
 LeavesOuts deck (WriteFault out) before after = writing.Ended (run_writes deck) (WriteFailed out) before after
 LeavesOuts deck OutOfMemory before after = writing.Ended (run_writes deck) NoMemory before after
@@ -81,12 +67,6 @@ KeepsOuts (ReadFault file) before after = after ≡ before
 KeepsOuts status before after = Unit {0}
 
 -- what is left: where the files have a fault, nothing is written
-abbrev pub Leaves : Result PlainDeck Fault → Status → Option Outs → Option Outs → Type 0
+abbrev pub Leaves : Result Deck Fault → Status → Option Outs → Option Outs → Type 0
 Leaves (Ok deck) status before after = LeavesOuts deck status before after
 Leaves (Err first) status before after = after ≡ before
-
--- what a load that gave no text answers
-abbrev pub IsLoadFault : Status → Type 0
-IsLoadFault (ReadFault file) = Unit {0}
-IsLoadFault OutOfMemory = Unit {0}
-IsLoadFault status = ⊥

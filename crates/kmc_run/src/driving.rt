@@ -1,10 +1,11 @@
-ghost use Rattle.std.specs.Prelude.{◌≡◌, ◌≤◌, ℕ, pos, ◌++◌, ◌∷◌, [], List, IfOk, IfErr, OnOk, IsSomeAnd, Some, replicate};
+ghost use Rattle.std.specs.Prelude.{◌≡◌, ◌≤◌, ℕ, ◌++◌, ◌∷◌, [], List, IfOk, IfErr, OnOk, IsSomeAnd, Some};
 ghost use Rattle.std.specs.List.{flat_map};
+ghost use Rattle.deck.specs.Soundness.{IsSound};
 ghost use Rattle.kmc_base.specs.Faults.{OnlyFailed, SameCounts};
-ghost use Rattle.kmc_core.specs.Deck.{IsSound};
-ghost use Rattle.kmc_core.specs.PlainSystem.{trajectory_of};
-ghost use Rattle.kmc_core.specs.Run.{stop_of};
-ghost use Rattle.kmc_run.specs.Samples.{IsWritten, adsorbates, events_from, writes_at, run_writes};
+ghost use Rattle.kmc_core.specs.DeckSystem.{trajectory_of};
+ghost use Rattle.kmc_core.specs.Run.{energy_of, stop_of};
+ghost use Rattle.kmc_run.specs.Adsorbates.{adsorbates};
+ghost use Rattle.kmc_run.specs.Samples.{IsWritten, events_from, writes_at, run_writes};
 ghost use Rattle.kmc_run.specs.Summaries.{IsSummary};
 ghost use Rattle.kmc_run.specs.Writes.{Done, Ended, failed_output};
 
@@ -12,8 +13,9 @@ use crate::counting::adsorbates;
 use crate::drive_fault::DriveFault;
 use crate::summary::Summary;
 use crate::writing;
+use deck::Deck;
 use kmc_base::{Folder, Gate, OutOfMemory, Sequence};
-use kmc_core::{Closed, Fired, PlainDeck, Stop, Unclosed};
+use kmc_core::{Closed, Fired, Stop, Unclosed};
 use std::alloc::Global;
 use std::marker::Sync;
 use std::thread::Threads;
@@ -63,15 +65,16 @@ fn summary_of(alloc: Global, last: &Closed, stop: Stop) -> Result<Summary, OutOf
     ensures events { IfOk result (λ summary. summary.events ≡ last.now.event) }
     ensures stop { IfOk result (λ summary. summary.stop ≡ stop) }
     ensures time { IfOk result (λ summary. IsSomeAnd (trajectory_of last.now.deck last.now.event) (λ s. summary.time ≡ s.time)) }
-    ensures surface { IfOk result (λ summary. IsSomeAnd (trajectory_of last.now.deck last.now.event) (λ s. summary.surface ≡ adsorbates last.now.deck s.state)) }
-    ensures others { IfOk result (λ summary. (summary.energy ≡ pos 0) × (summary.gas ≡ replicate last.now.deck.gas (pos 0))) }
+    ensures energy { IfOk result (λ summary. IsSomeAnd (trajectory_of last.now.deck last.now.event) (λ s. summary.energy ≡ energy_of last.now.deck s.state.states)) }
+    ensures surface { IfOk result (λ summary. IsSomeAnd (trajectory_of last.now.deck last.now.event) (λ s. summary.surface ≡ adsorbates last.now.deck.book s.state.states)) }
+    ensures gas { IfOk result (λ summary. IsSomeAnd (trajectory_of last.now.deck last.now.event) (λ s. summary.gas ≡ s.state.gas)) }
 {
     let surface = adsorbates(alloc, last)?;
-    let gas = vec![in alloc; 0; last.deck().gas as usize]?;
+    let gas = Vec::from_slice(alloc, last.gas())?;
     Ok(Summary {
         events: last.event(),
         time: last.time(),
-        energy: 0,
+        energy: last.energy(),
         surface: Sequence::new(surface),
         gas: Sequence::new(gas),
         stop,
@@ -92,7 +95,7 @@ fn summary_of(alloc: Global, last: &Closed, stop: Stop) -> Result<Summary, OutOf
 pub fn drive<R: Threads + Sync, F: Folder, G: Gate + Sync>(
     _rt: &R,
     alloc: Global,
-    deck: PlainDeck,
+    deck: Deck,
     folder: &mut F,
     _gate: &G,
     _workers: u32,

@@ -1,14 +1,13 @@
 ghost use Rattle.std.specs.Prelude.{◌≡◌, ◌≢◌, ◌↔◌, false, true, IfSome, map, string_bytes};
 ghost use Rattle.kmc_base.specs.Faults.{OnlyFailed};
-ghost use Rattle.kmc_run.specs.Answers.{is_run_command, deck_files, failed_read, failed_write, FailsInOrder, KeepsOuts, Leaves, MayAnswer, ReadsDeck};
-ghost use Rattle.kmc_run.specs.PlainDecks.{deck_of_files};
+ghost use Rattle.deck_join.specs.Decks.{deck_of_files};
+ghost use Rattle.deck_join.specs.Texts.{deck_files};
+ghost use Rattle.kmc_run.specs.Answers.{is_run_command, failed_read, failed_write, FailsInOrder, KeepsOuts, Leaves, MayAnswer, ReadsDeck};
 
-use crate::deck_of_texts::read_deck;
 use crate::drive_fault::DriveFault;
 use crate::driving::drive;
-use crate::loading::load_texts;
 use crate::status::Status;
-use deck_shape::DeckFault;
+use deck_join::{DeckRefusal, read_deck};
 use kmc_base::{Folder, Gate, Sink};
 use std::alloc::Global;
 use std::marker::Sync;
@@ -48,14 +47,11 @@ fn run<R: Threads + Sync, F: Folder, G: Gate + Sync>(
     ensures words { result ≢ Status.BadWords }
     ensures screen { result ≢ Status.ScreenFault }
 {
-    let texts = match load_texts(alloc, folder) {
-        Ok(texts) => texts,
-        Err(status) => return status,
-    };
-    let deck = match read_deck(alloc, &texts) {
+    let deck = match read_deck(alloc, folder) {
         Ok(deck) => deck,
-        Err(DeckFault::Fault(fault)) => return Status::Refused(fault),
-        Err(DeckFault::OutOfMemory) => return Status::OutOfMemory,
+        Err(DeckRefusal::Load(file)) => return Status::ReadFault(file),
+        Err(DeckRefusal::Fault(fault)) => return Status::Refused(fault),
+        Err(DeckRefusal::OutOfMemory) => return Status::OutOfMemory,
     };
     match drive(rt, alloc, deck, folder, gate, WORKERS, SPREAD) {
         Ok(_) => Status::Done,

@@ -1,17 +1,18 @@
-ghost use Rattle.std.specs.Prelude.{◌≡◌, ◌≤◌, [], ◌∷◌, OnOk, IfErr, IfOk, IfSome, IsSomeAnd, replicate};
+ghost use Rattle.std.specs.Prelude.{◌≡◌, ◌≤◌, [], ◌∷◌, OnOk, IfErr, IfOk, IfSome, IsSomeAnd};
 ghost use Rattle.kmc_base.specs.Faults.{OnlyFailed, SameCounts};
-ghost use Rattle.kmc_core.specs.PlainSystem.{trajectory_of};
-ghost use Rattle.sim_deck.specs.Soundness.{IsPeriod};
+ghost use Rattle.kmc_core.specs.DeckSystem.{trajectory_of};
 ghost use Rattle.kmc_run.specs.Samples.{event_period, sample_line, writes_at, writes_before};
 ghost use Rattle.kmc_run.specs.Writes.{Begin, Append, Done, Ended, failed_output};
+ghost use Rattle.run_plan.specs.Soundness.{IsPeriod};
 
 use crate::counting::adsorbates;
 use crate::drive_fault::DriveFault;
 use crate::specnum;
 use crate::specnum::SampleHead;
+use deck::Deck;
 use kmc_base::{Folder, OutId, OutOfMemory};
-use kmc_core::{Closed, PlainDeck};
-use sim_deck::Sampling;
+use kmc_core::Closed;
+use run_plan::Sampling;
 use std::alloc::Global;
 
 /// Begins an output.
@@ -58,7 +59,7 @@ fn event_period(sampling: Sampling) -> Option<u64>
 /// Begins the output of a run that is sampled, and adds its head.
 pub(crate) fn write_before<F: Folder>(
     alloc: Global,
-    deck: &PlainDeck,
+    deck: &Deck,
     folder: &mut F,
 ) -> Result<(), DriveFault>
     ensures ok { OnOk result (Done (writes_before deck.now) (F.outs folder.old) (F.outs folder.new)) }
@@ -76,13 +77,6 @@ pub(crate) fn write_before<F: Folder>(
     append(folder, OutId::Specnum, &head)
 }
 
-/// A count of 0 for each gas species, of which nothing is produced or consumed.
-fn no_gas(alloc: Global, species: u8) -> Result<Vec<u64>, OutOfMemory>
-    ensures { IfOk result (λ counts. counts.items ≡ replicate species 0) }
-{
-    Ok(vec![in alloc; 0; species as usize]?)
-}
-
 /// The line of the sample at an event.
 fn sample_line(alloc: Global, closed: &Closed, period: u64) -> Result<Vec<u8>, OutOfMemory>
     requires { 1 ≤ period }
@@ -95,11 +89,11 @@ fn sample_line(alloc: Global, closed: &Closed, period: u64) -> Result<Vec<u8>, O
         sample: event / period,
         event,
         time: closed.time(),
-        temperature: deck.temperature,
+        temperature: deck.chem.temperature,
+        energy: closed.energy(),
     };
     let surface = adsorbates(alloc, closed)?;
-    let gas = no_gas(alloc, deck.gas)?;
-    let line = specnum::line(alloc, head, &surface, &gas)?;
+    let line = specnum::line(alloc, head, &surface, closed.gas())?;
     Ok(line)
 }
 
