@@ -1,13 +1,15 @@
-ghost use Rattle.std.specs.Prelude.{IfOk};
-ghost use Rattle.kmc_core.specs.Deck.{IsSound};
+ghost use Rattle.std.specs.Prelude.{◌≡◌, ◌<◌};
 
 use crate::small_decks::{SmallDeck, Species, Step, made};
 use kmc_base::{SiteId, SpeciesId};
-use kmc_core::{Closed, Fired, PlainDeck, Stop, Unclosed};
+use kmc_core::{Closed, Fired, Stop, Unclosed};
+use lattice_core::{Config, Steps};
 use pattern_types::Wanted;
-use sim_deck::Sampling;
+use run_plan::Sampling;
 use std::alloc::Global;
+use std::marker::Brand;
 use std::process::Abort;
+use std::sync::ledger::{Blank, Ledger};
 use std::test::Fail;
 
 /// What the next site adds to a code, and the next process.
@@ -103,6 +105,8 @@ const STAY: Step<'static> = Step {
     edges: &[],
     before: FREE,
     after: FREE,
+    forward: true,
+    gas: &[],
     factor: AT_ONCE,
     activation: 0,
 };
@@ -112,6 +116,8 @@ const FILL: Step<'static> = Step {
     edges: &[],
     before: FREE,
     after: ON_A,
+    forward: true,
+    gas: &[],
     factor: AT_ONCE,
     activation: 0,
 };
@@ -121,6 +127,8 @@ const NEVER: Step<'static> = Step {
     edges: &[],
     before: FREE,
     after: ON_A,
+    forward: true,
+    gas: &[],
     factor: None,
     activation: 0,
 };
@@ -130,6 +138,8 @@ const TURN: Step<'static> = Step {
     edges: &[],
     before: ON_A,
     after: ON_B,
+    forward: true,
+    gas: &[],
     factor: AT_ONCE,
     activation: 0,
 };
@@ -139,6 +149,8 @@ const SLOW_FILL: Step<'static> = Step {
     edges: &[],
     before: FREE,
     after: ON_A,
+    forward: true,
+    gas: &[],
     factor: USUAL,
     activation: 1_000_000_000,
 };
@@ -148,6 +160,8 @@ const SLOW_LEAVE: Step<'static> = Step {
     edges: &[],
     before: ON_A,
     after: FREE,
+    forward: true,
+    gas: &[],
     factor: USUAL,
     activation: 1_050_000_000,
 };
@@ -157,6 +171,8 @@ const ADSORB: Step<'static> = Step {
     edges: &[(1, 2)],
     before: &[Wanted::Vacant, Wanted::Vacant],
     after: &[FIRST, LAST],
+    forward: true,
+    gas: &[],
     factor: AT_ONCE,
     activation: 0,
 };
@@ -166,6 +182,8 @@ const DESORB: Step<'static> = Step {
     edges: &[(1, 2)],
     before: &[FIRST, LAST],
     after: &[Wanted::Vacant, Wanted::Vacant],
+    forward: true,
+    gas: &[],
     factor: AT_ONCE,
     activation: 0,
 };
@@ -175,6 +193,8 @@ const ADSORB_BESIDE: Step<'static> = Step {
     edges: &[(1, 3), (2, 3)],
     before: &[Wanted::Vacant, Wanted::Vacant, Wanted::Vacant],
     after: &[Wanted::Vacant, LAST, FIRST],
+    forward: true,
+    gas: &[],
     factor: AT_ONCE,
     activation: 0,
 };
@@ -184,8 +204,23 @@ const WALK: Step<'static> = Step {
     edges: &[(1, 3), (2, 3)],
     before: &[FIRST, Wanted::Vacant, LAST],
     after: &[Wanted::Vacant, LAST, FIRST],
+    forward: true,
+    gas: &[],
     factor: AT_ONCE,
     activation: 0,
+};
+
+/// A dimer adsorbs from a gas, and two molecules of another gas come off.
+const EXCHANGE: Step<'static> = Step {
+    gas: &[(0, -1), (1, 2)],
+    ..ADSORB
+};
+
+/// The reverse of that step.
+const EXCHANGE_BACK: Step<'static> = Step {
+    forward: false,
+    gas: &[(0, 1), (1, -2)],
+    ..DESORB
 };
 
 /// A deck on four sites without neighbours.
@@ -207,7 +242,16 @@ const WAITING: SmallDeck<'static> = SmallDeck {
     ..ON_FOUR_SITES
 };
 
-/// The same deck, with one event.
+/// A deck of a step and its reverse, with gas.
+const EXCHANGING: SmallDeck<'static> = SmallDeck {
+    neighbours: SQUARE,
+    species: Species::Dimer,
+    steps: &[EXCHANGE, EXCHANGE_BACK],
+    max_steps: 3,
+    ..ON_FOUR_SITES
+};
+
+/// The deck of drawn waits, with one event.
 const ONE_EVENT: SmallDeck<'static> = SmallDeck {
     max_steps: 1,
     ..WAITING
@@ -402,6 +446,17 @@ const DIMER_RUNS: &[Run<'static>] = &[
         ],
         stop: Stop::Still,
     },
+    // The first of two dimers desorbs by the reverse of the step that put it there.
+    Run {
+        deck: EXCHANGING,
+        reports: &[
+            (0, [0, 0], Some((1, 0))),
+            (1, [1, 0], Some((1, 2 * SITE + SECOND))),
+            (1, [2, 0], Some((2, PROCESS))),
+            (2, [1, 0], Some((2, PROCESS + 2 * SITE + SECOND))),
+        ],
+        stop: Stop::Steps,
+    },
     // On the ring the sites 0, 3, 2 come before 0, 4, 1, and their code after it.
     Run {
         deck: SmallDeck {
@@ -441,12 +496,30 @@ const DIMER_RUNS: &[Run<'static>] = &[
     },
 ];
 
+/// How many adsorbates of a species there are: as many as sites with their dentate 1.
+fn count_homes<L: Ledger>(config: &Config, species: SpeciesId, blank: Blank) -> usize
+    requires name { blank.name ≡ L.name }
+    requires parts { blank.parts ≡ L.parts }
+    requires has_a_part { 0 < L.parts }
+{
+    // This count of reads is not used.
+    let mut steps = Steps::<L>::new(blank);
+    let home = u32::from(species.0) * 8 + 1;
+    let classes = config.classes(&mut steps);
+    classes.iter().filter(|class| **class == home).count()
+}
+
+/// How many adsorbates of a species a run has.
+fn adsorbates(closed: &Closed, species: SpeciesId) -> u64 {
+    count_homes::<Brand>(closed.config(), species, Blank::new(1)) as u64
+}
+
 /// Checks what a run reports at its event.
 fn check_report(rt: &impl Abort, closed: &Closed, expected: &Report) {
     let (time, counts, next) = *expected;
     assert_eq!(rt; closed.time(), time);
-    assert_eq!(rt; closed.counts_of(A), counts[0]);
-    assert_eq!(rt; closed.counts_of(B), counts[1]);
+    assert_eq!(rt; adsorbates(closed, A), counts[0]);
+    assert_eq!(rt; adsorbates(closed, B), counts[1]);
     assert_eq!(rt; closed.least(), next);
 }
 
@@ -503,4 +576,37 @@ fn runs_of_drawn_waits(rt: HostRuntime) -> Result<(), Fail> {
 #[test]
 fn runs_of_dimers(rt: HostRuntime) -> Result<(), Fail> {
     follow_all(&rt, rt.alloc(), DIMER_RUNS)
+}
+
+/// The molecules of the two gas species and the events of the two processes of a deck, after an event.
+type Totals = ([i64; 2], [u64; 2]);
+
+/// Two dimers adsorb, and the first desorbs.
+const EXCHANGED: &[Totals] = &[([-1, 2], [1, 0]), ([-2, 4], [2, 0]), ([-1, 2], [2, 1])];
+
+/// Checks the numbers of a run at its event. A deck without clusters has no energy.
+fn check_totals(rt: &impl Abort, closed: &Closed, expected: &Totals) {
+    assert_eq!(rt; closed.gas(), expected.0.as_slice());
+    assert_eq!(rt; closed.counts(), expected.1.as_slice());
+    assert_eq!(rt; closed.energy(), 0);
+}
+
+/// The run at its next event.
+fn advanced(rt: &impl Abort, alloc: Global, closed: Closed) -> Result<Closed, Fail> {
+    match closed.fire() {
+        Fired::Next(open) => listed(rt, alloc, open),
+        Fired::Ended(..) => Err("the run ends")?,
+    }
+}
+
+#[test]
+fn gas_and_events_of_dimers(rt: HostRuntime) -> Result<(), Fail> {
+    let alloc = rt.alloc();
+    let mut closed = Closed::start(alloc, made(alloc, &EXCHANGING)?)?;
+    check_totals(&rt, &closed, &([0, 0], [0, 0]));
+    for expected in EXCHANGED {
+        closed = advanced(&rt, alloc, closed)?;
+        check_totals(&rt, &closed, expected);
+    }
+    Ok(())
 }

@@ -77,22 +77,40 @@ fn windows(rt: HostRuntime) -> Result<(), Fail> {
     loaded_window::<Brand>(&rt, rt.alloc(), Blank::new(1))
 }
 
+/// Two dentates of an adsorbate, and an adsorbate of another species.
+const FIRST: State = State::Holds {
+    species: SpeciesId(0),
+    dentate: 1,
+    home: SiteId(1),
+};
+
+const SECOND: State = State::Holds {
+    species: SpeciesId(0),
+    dentate: 2,
+    home: SiteId(1),
+};
+
+const OTHER: State = State::Holds {
+    species: SpeciesId(1),
+    dentate: 1,
+    home: SiteId(4),
+};
+
+/// Sites, and the state that the overlay shows of each.
+const SHOWN: &[(u32, State)] = &[
+    (1, FIRST),
+    (4, OTHER),
+    (5, State::Vacant),
+    (6, State::Vacant),
+];
+
 #[test]
 fn bare_lattices_and_overlays(rt: HostRuntime) {
-    let bare = Bare::of(&[(SiteId(1), holds(0, 1, 1)), (SiteId(5), holds(0, 2, 1))]);
-    assert_eq!(rt; shown(&bare, SiteId(5)), holds(0, 2, 1));
+    let bare = Bare::of(&[(SiteId(1), FIRST), (SiteId(5), SECOND)]);
+    assert_eq!(rt; shown(&bare, SiteId(5)), SECOND);
     assert_eq!(rt; shown(&bare, SiteId(4)), State::Vacant);
-    let overlay = Overlay::over(
-        &bare,
-        &[(SiteId(5), State::Vacant), (SiteId(4), holds(1, 1, 4))],
-    );
-    let cases = [
-        (1, holds(0, 1, 1)),
-        (4, holds(1, 1, 4)),
-        (5, State::Vacant),
-        (6, State::Vacant),
-    ];
-    for (site, state) in cases {
-        assert_eq!(rt; shown(&overlay, SiteId(site)), state, "site {site}");
+    let overlay = Overlay::over(&bare, &[(SiteId(5), State::Vacant), (SiteId(4), OTHER)]);
+    for (site, state) in SHOWN {
+        assert_eq!(rt; shown(&overlay, SiteId(*site)), *state, "site {site}");
     }
 }

@@ -46,12 +46,15 @@ fn equal_rows_count_once(rt: HostRuntime) -> Result<(), Fail> {
     Ok(())
 }
 
+/// Numbers of neighbours of a site, and the line and the kind of the fault.
+const CROWDED: &[(u32, Option<(u32, u8)>)] = &[(32, None), (33, Some((7, 27)))];
+
 #[test]
 fn crowded_sites(rt: HostRuntime) -> Result<(), Fail> {
     let alloc = rt.alloc();
-    for (rays, fault) in [(32, None), (33, Some((7, 27)))] {
-        let text = star(alloc, rays)?;
-        assert_eq!(rt; fault_of(alloc, text.as_bytes())?, fault, "{rays}");
+    for (rays, fault) in CROWDED {
+        let text = star(alloc, *rays)?;
+        assert_eq!(rt; fault_of(alloc, text.as_bytes())?, *fault, "{rays}");
     }
     Ok(())
 }

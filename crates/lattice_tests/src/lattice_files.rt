@@ -1,7 +1,7 @@
 use deck_shape::{DeckFault, Fault, read_shape};
 use kmc_base::{FileId, MAX_FILE_BYTES, OutOfMemory, SiteId};
 use lattice_deck::{LatticePart, read, unknown_type};
-use std::alloc::Global;
+use std::alloc::{AllocError, Global};
 use std::test::Fail;
 
 /// The values of a text, or its first fault of form or of a value.
@@ -44,28 +44,41 @@ fn faults_of_default_lattices(rt: HostRuntime) -> Result<(), Fail> {
     Ok(())
 }
 
-/// What a file of a cell has of repeats, number of sites, names of types, types of sites and rows, and the line and the
-/// kind of its fault.
-const OF_CELLS: &[(&str, &str, &str, &str, &str, u32, u8)] = &[
-    ("2 x", "2", "t", "1 1", "1-2 self\n", 2, 12),
-    ("2 2", "0", "t", "1 1", "1-2 self\n", 3, 13),
-    ("2 2", "2", "t u", "1 1", "1-2 self\n", 5, 15),
-    ("2 2", "2", "t", "1", "1-2 self\n", 6, 15),
-    ("2 2", "2", "t", "1 1", "1-2 self\n1-2 west\n", 9, 17),
-    ("2 2", "2", "t", "1 1", "1-3 self\n", 8, 20),
-    ("1 2", "2", "t", "1 1", "1-1 north\n1-1 east\n", 9, 26),
-    ("256 257", "1", "t", "1", "1-1 east\n", 2, 29),
+/// What a file of a cell has of repeats, number of sites, names of types, types of sites and rows.
+type CellParts = (
+    &'static str,
+    &'static str,
+    &'static str,
+    &'static str,
+    &'static str,
+);
+
+/// A file of a cell of these parts.
+fn cell_text(alloc: Global, parts: &CellParts) -> Result<String, AllocError> {
+    let (repeats, sites, names, types, rows) = *parts;
+    format!(in alloc;
+        "lattice periodic_cell\nrepeat_cell {repeats}\nn_cell_sites {sites}\nn_site_types 1\nsite_type_names {names}\nsite_types {types}\nneighboring_structure\n{rows}end_neighboring_structure\nend_lattice\n"
+    )
+}
+
+/// The parts of files of cells, and the line and the kind of the fault.
+const OF_CELLS: &[(CellParts, u32, u8)] = &[
+    (("2 x", "2", "t", "1 1", "1-2 self\n"), 2, 12),
+    (("2 2", "0", "t", "1 1", "1-2 self\n"), 3, 13),
+    (("2 2", "2", "t u", "1 1", "1-2 self\n"), 5, 15),
+    (("2 2", "2", "t", "1", "1-2 self\n"), 6, 15),
+    (("2 2", "2", "t", "1 1", "1-2 self\n1-2 west\n"), 9, 17),
+    (("2 2", "2", "t", "1 1", "1-3 self\n"), 8, 20),
+    (("1 2", "2", "t", "1 1", "1-1 north\n1-1 east\n"), 9, 26),
+    (("256 257", "1", "t", "1", "1-1 east\n"), 2, 29),
 ];
 
 #[test]
 fn faults_of_cells(rt: HostRuntime) -> Result<(), Fail> {
-    let alloc = rt.alloc();
-    for (repeats, sites, names, types, rows, line, kind) in OF_CELLS {
-        let text = format!(in alloc;
-            "lattice periodic_cell\nrepeat_cell {repeats}\nn_cell_sites {sites}\nn_site_types 1\nsite_type_names {names}\nsite_types {types}\nneighboring_structure\n{rows}end_neighboring_structure\nend_lattice\n"
-        )?;
-        let fault = fault_of(alloc, text.as_bytes())?;
-        assert_eq!(rt; fault, Some((*line, *kind)), "{text}");
+    for (parts, line, kind) in OF_CELLS {
+        let text = cell_text(rt.alloc(), parts)?;
+        let fault = fault_of(rt.alloc(), text.as_bytes())?;
+        assert_eq!(rt; fault, Some((*line, *kind)), "{parts:?}");
     }
     Ok(())
 }
@@ -85,7 +98,7 @@ fn limits_of_sites_and_types(rt: HostRuntime) -> Result<(), Fail> {
             "lattice explicit\nn_sites {sites}\nn_site_types {types}\nsite_type_names t\nlattice_structure\n1 0.0 0.0 t 0\nend_lattice_structure\nend_lattice\n"
         )?;
         let fault = fault_of(alloc, text.as_bytes())?;
-        assert_eq!(rt; fault, Some((*line, *kind)), "{text}");
+        assert_eq!(rt; fault, Some((*line, *kind)), "{sites} {types}");
     }
     Ok(())
 }
@@ -108,7 +121,7 @@ fn faults_of_lists_of_sites(rt: HostRuntime) -> Result<(), Fail> {
             "lattice explicit\nn_sites 2\nn_site_types 2\nsite_type_names {names}\nlattice_structure\n{rows}end_lattice_structure\nend_lattice\n"
         )?;
         let fault = fault_of(alloc, text.as_bytes())?;
-        assert_eq!(rt; fault, Some((*line, *kind)), "{text}");
+        assert_eq!(rt; fault, Some((*line, *kind)), "{rows}");
     }
     Ok(())
 }
@@ -128,7 +141,8 @@ type Reading = (u32, usize, usize, [u16; 2], Option<(u32, u8)>);
 /// What is read of a text.
 fn reading(alloc: Global, text: &[u8]) -> Result<Reading, Fail> {
     let part = read_text(alloc, text)?;
-    let unknown = unknown_type(alloc, text, &part)?;
+    let names = part.type_names.as_slice();
+    let unknown = unknown_type(alloc, text, names, part.type_words.as_slice())?;
     let unknown = unknown.map(|fault| (fault.line, fault.kind));
     let graph = &part.graph;
     if graph.len() < 2 {

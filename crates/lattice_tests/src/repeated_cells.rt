@@ -20,18 +20,21 @@ const TWO_JOINS: &[Join] = &[
     },
 ];
 
+/// Sites of two by two such cells, their types and their neighbours.
+const OF_TWO_SITES: &[(SiteId, u16, &[SiteId])] = &[
+    (SiteId(0), 7, &[SiteId(1), SiteId(3)]),
+    (SiteId(1), 9, &[SiteId(0), SiteId(2)]),
+    (SiteId(2), 7, &[SiteId(1), SiteId(3)]),
+];
+
 #[test]
 fn cells_of_two_sites(rt: HostRuntime) -> Result<(), Fail> {
     let graph = expand_periodic(rt.alloc(), 2, 2, &[7, 9], TWO_JOINS)?;
     assert_eq!(rt; graph.len(), 8);
-    for (site, kind, neighbours) in [
-        (SiteId(0), 7, [SiteId(1), SiteId(3)]),
-        (SiteId(1), 9, [SiteId(0), SiteId(2)]),
-        (SiteId(2), 7, [SiteId(1), SiteId(3)]),
-    ] {
+    for (site, kind, neighbours) in OF_TWO_SITES {
         assert!(rt; site.0 < graph.len());
-        assert_eq!(rt; graph.site_type(site), kind);
-        assert_eq!(rt; graph.neighbours(site), neighbours.as_slice());
+        assert_eq!(rt; graph.site_type(*site), *kind);
+        assert_eq!(rt; graph.neighbours(*site), *neighbours);
     }
     Ok(())
 }
@@ -118,16 +121,16 @@ fn star(alloc: Global, last: u32) -> Result<Vec<Join>, AllocError> {
     Ok(joins)
 }
 
+/// How many joins the first site has, and whether it has too many neighbours.
+const CROWDED: &[(u32, bool)] = &[(32, false), (33, true)];
+
 #[test]
 fn crowded_cells(rt: HostRuntime) -> Result<(), Fail> {
-    for (last, crowded) in [(32, false), (33, true)] {
-        let joins = star(rt.alloc(), last)?;
+    for (last, crowded) in CROWDED {
+        let joins = star(rt.alloc(), *last)?;
         assert!(rt; joins.iter().all(|join| join.from < 40 && join.to < 40));
-        assert_eq!(rt;
-            is_crowded(rt.alloc(), 1, 1, 40, &joins)?,
-            crowded,
-            "{last}"
-        );
+        let found = is_crowded(rt.alloc(), 1, 1, 40, &joins)?;
+        assert_eq!(rt; found, *crowded, "{last}");
     }
     Ok(())
 }

@@ -1,7 +1,8 @@
 use dec_text::split;
 use deck_words::LineFault;
 use kmc_base::{OutOfMemory, SiteId};
-use site_rows::{TypeIndex, edge_of, graph_of, is_no_site, read_rows, row_words, type_of};
+use lattice_core::Graph;
+use site_rows::{TypeIndex, graph_of, is_no_site, read_rows, type_of};
 use std::alloc::Global;
 use std::test::Fail;
 
@@ -45,12 +46,6 @@ fn numbers_of_no_site(rt: HostRuntime) {
     for (sites, number, is_none) in NO_SITES {
         assert_eq!(rt; is_no_site(*sites, *number), *is_none);
     }
-}
-
-#[test]
-fn edges(rt: HostRuntime) {
-    assert_eq!(rt; edge_of(b"01-+2"), Some((1, 2)));
-    assert_eq!(rt; edge_of(b"1"), None);
 }
 
 /// The line and the kind of the first fault of the rows of a short text.
@@ -107,25 +102,27 @@ fn too_many_neighbours(rt: HostRuntime) -> Result<(), Fail> {
     Ok(())
 }
 
-#[test]
-fn lattice_of_rows(rt: HostRuntime) -> Result<(), Fail> {
-    let alloc = rt.alloc();
-    let text = b"2 1.0 0.0 2 1 1\n1 0.0 0.0 t 2 2 2\n";
+/// The lattice of the rows of a short text of two sites.
+fn lattice_of(alloc: Global, text: &[u8]) -> Result<Graph, Fail> {
+    if text.len() > 1000 {
+        return Err("too long")?;
+    }
     let lines = split(alloc, text)?;
-    assert_eq!(rt; lines.len(), 2);
-    assert_eq!(rt; row_words(&lines[0]).len(), 6);
     let Ok(rows) = read_rows(alloc, text, Some(2), &lines)? else {
-        return Err("a fault")?;
+        return Err("a fault of a row")?;
     };
     let names = two_names(alloc)?;
     let index = TypeIndex::new(alloc, &names)?;
-    let Ok(graph) = graph_of(alloc, text, 2, &index, &rows)? else {
-        return Err("a fault")?;
-    };
+    let graph = graph_of(alloc, text, 2, &index, &rows)?;
+    Ok(graph.ok().ok_or("a fault of the lattice")?)
+}
+
+#[test]
+fn lattice_of_rows(rt: HostRuntime) -> Result<(), Fail> {
+    let graph = lattice_of(rt.alloc(), b"2 1.0 0.0 2 1 1\n1 0.0 0.0 t 2 2 2\n")?;
     assert_eq!(rt; graph.len(), 2);
-    assert_eq!(rt; graph.site_type(SiteId(0)), 0);
-    assert_eq!(rt; graph.site_type(SiteId(1)), 2);
-    let neighbours = graph.neighbours(SiteId(0));
-    assert_eq!(rt; neighbours, [SiteId(1)].as_slice());
+    let types = [graph.site_type(SiteId(0)), graph.site_type(SiteId(1))];
+    assert_eq!(rt; types, [0, 2]);
+    assert_eq!(rt; graph.neighbours(SiteId(0)), [SiteId(1)].as_slice());
     Ok(())
 }

@@ -2,7 +2,7 @@
 
 use kmc_base::{FileId, MemoryFolder, MemorySink, OpenGate};
 use kmc_run::{Status, run_program};
-use std::alloc::Global;
+use std::alloc::{AllocError, Global};
 use std::marker::Sync;
 use std::test::Fail;
 use std::thread::Threads;
@@ -44,40 +44,73 @@ pub(crate) const FILLED: DeckTexts = DeckTexts {
     mechanism: FILLS,
 };
 
-/// Adds a file of two pieces of text, unless it is empty.
-fn push_file(
-    files: &mut Vec<(FileId, Vec<u8>)>,
-    id: FileId,
-    pieces: [&str; 2],
-) -> Result<(), Fail> {
-    let [first, second] = pieces;
-    let mut bytes = Vec::from_slice(*files.allocator(), first.as_bytes())?;
-    bytes.extend_from_slice(second.as_bytes())?;
-    if !bytes.is_empty() {
-        files.push((id, bytes))?;
+/// Neighbours, whose energy is 0.2 eV a pair: half of it for each of the two placements on a pair.
+const PAIRS: &str =
+    "energetics\ncluster A_pair\nsites 2\nneighboring 1-2\nlattice_state\n1 A* 1\n2 A* 1\ngraph_multiplicity 2\ncluster_eng 0.2\nend_cluster\nend_energetics\n";
+
+/// Nine sites, whose neighbours repel each other, and of which four are filled.
+pub(crate) const PAIRED: DeckTexts = DeckTexts {
+    simulation: [
+        SPECIES,
+        "pressure 1.0\nsurf_specs_dent 1\nspecies_numbers on event 1\nmax_steps 4\nfinish\n",
+    ],
+    lattice: "lattice default_choice\nrectangular_periodic 1.0 3 3\nend_lattice\n",
+    energetics: PAIRS,
+    mechanism: FILLS,
+};
+
+impl DeckTexts {
+    /// The texts by their files, each in two pieces.
+    fn texts(&self) -> [(FileId, [&'static str; 2]); 4] {
+        [
+            (FileId::Simulation, self.simulation),
+            (FileId::Lattice, [self.lattice, ""]),
+            (FileId::Energetics, [self.energetics, ""]),
+            (FileId::Mechanism, [self.mechanism, ""]),
+        ]
     }
-    Ok(())
+}
+
+/// The bytes of two pieces of text.
+fn joined(alloc: Global, pieces: &[&str; 2]) -> Result<Vec<u8>, AllocError> {
+    let mut bytes = Vec::from_slice(alloc, pieces[0].as_bytes())?;
+    bytes.extend_from_slice(pieces[1].as_bytes())?;
+    Ok(bytes)
+}
+
+/// The files of a deck that are there.
+fn files_of(alloc: Global, deck: &DeckTexts) -> Result<Vec<(FileId, Vec<u8>)>, AllocError> {
+    let mut files = Vec::new(alloc);
+    for (id, pieces) in &deck.texts() {
+        let bytes = joined(alloc, pieces)?;
+        if !bytes.is_empty() {
+            files.push((*id, bytes))?;
+        }
+    }
+    Ok(files)
 }
 
 /// A folder of these files, of which the loads and the append of these numbers fail. They are counted from 1.
 pub(crate) fn folder_of(
     alloc: Global,
-    deck: DeckTexts,
+    deck: &DeckTexts,
     loads: [u64; 2],
     append: u64,
 ) -> Result<MemoryFolder, Fail> {
-    let mut files = Vec::new(alloc);
-    push_file(&mut files, FileId::Simulation, deck.simulation)?;
-    push_file(&mut files, FileId::Lattice, [deck.lattice, ""])?;
-    push_file(&mut files, FileId::Energetics, [deck.energetics, ""])?;
-    push_file(&mut files, FileId::Mechanism, [deck.mechanism, ""])?;
-    let folder = MemoryFolder::new(
-        files,
-        Vec::from_array(alloc, loads)?,
-        Vec::new(alloc),
-        Vec::from_array(alloc, [append])?,
-    );
+    let files = files_of(alloc, deck)?;
+    let loads = Vec::from_array(alloc, loads)?;
+    let appends = Vec::from_array(alloc, [append])?;
+    let folder = MemoryFolder::new(files, loads, Vec::new(alloc), appends);
     Ok(folder.with_room(1000).map_err(|(_, error)| error)?)
+}
+
+/// The words of a command.
+fn owned(alloc: Global, words: &[&str]) -> Result<Vec<String>, AllocError> {
+    let mut owned = Vec::new(alloc);
+    for word in words {
+        owned.push(String::from_str(alloc, *word)?)?;
+    }
+    Ok(owned)
 }
 
 /// The status of the program over a folder, where it is given these words.
@@ -87,10 +120,7 @@ pub(crate) fn status_of<R: Threads + Sync>(
     words: &[&str],
     folder: &mut MemoryFolder,
 ) -> Result<Status, Fail> {
-    let mut owned = Vec::new(alloc);
-    for word in words {
-        owned.push(String::from_str(alloc, word)?)?;
-    }
+    let words = owned(alloc, words)?;
     let mut screen = MemorySink::new(alloc, 0, Vec::new(alloc)).map_err(|(_, error)| error)?;
-    Ok(run_program(rt, alloc, &owned, folder, &mut screen, &OpenGate))
+    Ok(run_program(rt, alloc, &words, folder, &mut screen, &OpenGate))
 }

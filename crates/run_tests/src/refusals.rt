@@ -24,7 +24,7 @@ const UNKNOWN: &str =
 fn refuses<R: Threads + Sync + Abort>(
     rt: &R,
     alloc: Global,
-    deck: DeckTexts,
+    deck: &DeckTexts,
     (file, line, kind): (FileId, u32, u8),
 ) -> Result<(), Fail> {
     let mut folder = folder_of(alloc, deck, [0, 0], 0)?;
@@ -75,7 +75,7 @@ fn refuses_simulation_files(rt: HostRuntime) -> Result<(), Fail> {
             simulation: [SPECIES, *rest],
             ..FILLED
         };
-        refuses(&rt, rt.alloc(), deck, (FileId::Simulation, *line, *kind))?;
+        refuses(&rt, rt.alloc(), &deck, (FileId::Simulation, *line, *kind))?;
     }
     Ok(())
 }
@@ -130,7 +130,7 @@ fn refuses_lattice_files(rt: HostRuntime) -> Result<(), Fail> {
             lattice: *lattice,
             ..FILLED
         };
-        refuses(&rt, rt.alloc(), deck, (*file, *line, *kind))?;
+        refuses(&rt, rt.alloc(), &deck, (*file, *line, *kind))?;
     }
     Ok(())
 }
@@ -156,8 +156,8 @@ fn refuses_with_the_first_fault(rt: HostRuntime) -> Result<(), Fail> {
             "more\n",
             "more\n",
             FileId::Energetics,
-            0,
-            0,
+            1,
+            kind::UNKNOWN_WORD,
         ),
         (
             SAMPLED,
@@ -176,7 +176,7 @@ fn refuses_with_the_first_fault(rt: HostRuntime) -> Result<(), Fail> {
             energetics: *energetics,
             mechanism: *mechanism,
         };
-        refuses(&rt, rt.alloc(), deck, (*file, *line, *kind))?;
+        refuses(&rt, rt.alloc(), &deck, (*file, *line, *kind))?;
     }
     Ok(())
 }

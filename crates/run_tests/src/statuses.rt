@@ -17,7 +17,8 @@ fn answers<R: Threads + Sync + Abort>(
     append: u64,
     status: Status,
 ) -> Result<(), Fail> {
-    let mut folder = folder_of(alloc, FILLED, loads, append)?;
+    let deck = FILLED;
+    let mut folder = folder_of(alloc, &deck, loads, append)?;
     assert_eq!(rt; status_of(rt, alloc, words, &mut folder)?, status);
     assert_eq!(rt; folder.output(OutId::Specnum).is_some(), append == 1);
     Ok(())
@@ -49,7 +50,7 @@ fn reading_fails_before_a_deck_is_refused(rt: HostRuntime) -> Result<(), Fail> {
         simulation: ["", ""],
         ..FILLED
     };
-    let mut folder = folder_of(rt.alloc(), deck, [4, 0], 0)?;
+    let mut folder = folder_of(rt.alloc(), &deck, [4, 0], 0)?;
     let status = status_of(&rt, rt.alloc(), &["run"], &mut folder)?;
     assert_eq!(rt; status, Status::ReadFault(FileId::Mechanism));
     assert!(rt; folder.output(OutId::Specnum).is_none());

@@ -1,4 +1,4 @@
-use crate::decks::{DeckTexts, FILLED, FILLS, SPECIES, folder_of, status_of};
+use crate::decks::{DeckTexts, FILLED, FILLS, PAIRED, folder_of, status_of};
 use kmc_base::OutId;
 use kmc_run::Status;
 use std::alloc::Global;
@@ -31,7 +31,7 @@ const TWO_FILLED: &str =
 fn writes<R: Threads + Sync + Abort>(
     rt: &R,
     alloc: Global,
-    deck: DeckTexts,
+    deck: &DeckTexts,
     head: &str,
     lines: &str,
 ) -> Result<(), Fail> {
@@ -75,7 +75,7 @@ fn samples_of_whole_runs(rt: HostRuntime) -> Result<(), Fail> {
             mechanism: *mechanism,
             ..FILLED
         };
-        writes(&rt, rt.alloc(), deck, *head, *lines)?;
+        writes(&rt, rt.alloc(), &deck, *head, *lines)?;
     }
     Ok(())
 }
@@ -101,7 +101,7 @@ fn samples_at_every_second_event(rt: HostRuntime) -> Result<(), Fail> {
     writes(
         &rt,
         rt.alloc(),
-        deck,
+        &deck,
         "specnum 1\ncolumns sample event time temperature energy A** B* G\n",
         "0 0 0.000000000000000000 500.000 0.000000000 0 0 0\n1 2 0.000000000000000001 500.000 0.000000000 0 2 0\n2 4 0.000000000000000001 500.000 0.000000000 0 4 0\n",
     )
@@ -132,7 +132,17 @@ fn runs_on_each_kind_of_lattice(rt: HostRuntime) -> Result<(), Fail> {
             lattice: *lattice,
             ..FILLED
         };
-        writes(&rt, rt.alloc(), deck, GAS_HEAD, *lines)?;
+        writes(&rt, rt.alloc(), &deck, GAS_HEAD, *lines)?;
     }
     Ok(())
+}
+
+/// The sites 1, 5 and 9 of a diagonal are filled first: the neighbours of a filled site have another rate, and wait from
+/// then on. Then site 2 is filled, between 1 and 5.
+const DIAGONAL: &str =
+    "0 0 0.000000000000000000 500.000 0.000000000 0 0\n1 1 0.000000000000000001 500.000 0.000000000 1 0\n2 2 0.000000000000000001 500.000 0.000000000 2 0\n3 3 0.000000000000000001 500.000 0.000000000 3 0\n4 4 0.000000000000000002 500.000 0.400000000 4 0\n";
+
+#[test]
+fn samples_show_the_energy_of_pairs(rt: HostRuntime) -> Result<(), Fail> {
+    writes(&rt, rt.alloc(), &PAIRED, GAS_HEAD, DIAGONAL)
 }

@@ -1,6 +1,6 @@
 //! The numbers of the kinds of faults.
 
-use deck_shape::kind::*;
+use deck_words::kind::*;
 
 const KINDS: &[(u8, u8)] = &[
     (NOT_BUILT, 0),

@@ -1,26 +1,20 @@
-//! The tests of the crates that read text: lines and numbers, the words of the input files, the values of the simulation
-//! file, the names of species, and the plain form of the energetics and mechanism files. They call the public surface of
-//! those crates, and what they expect is written here.
+//! The tests of the crates that read text: lines and numbers, the meaning of words, the kinds of faults and which of them
+//! counts, the values of the simulation file, the names of species, and the plain form of the energetics and mechanism
+//! files. They call the public surface of those crates, and what they expect is written here.
 #![tactic(auto)]
 
 #[cfg(test)]
-mod block_words;
-#[cfg(test)]
 mod fault_kinds;
 #[cfg(test)]
-mod file_shapes;
-#[cfg(test)]
-mod keyword_arguments;
+mod faults_in_order;
 #[cfg(test)]
 mod lines_of_text;
-#[cfg(test)]
-mod nested_blocks;
-#[cfg(test)]
-mod nested_words;
 #[cfg(test)]
 mod numbers;
 #[cfg(test)]
 mod plain_form;
+#[cfg(test)]
+mod rows_of_words;
 #[cfg(test)]
 mod simulation_files;
 #[cfg(test)]

@@ -26,9 +26,19 @@ fn splits_texts(rt: HostRuntime) -> Result<(), Fail> {
     let (numbers, words) = shown(&rt, b"a bc\td\r\n\n# none\n  x#y z\n\xff\x80 last ")?;
     assert_eq!(rt; numbers.as_slice(), [1, 4, 5].as_slice());
     assert_eq!(rt; words.as_slice(), b"a bc d x \xff\x80 last ".as_slice());
-    for (text, want) in [("", 0), ("\n", 0), ("x", 1), ("x\n", 1), ("\n\nx", 3)] {
-        let (numbers, _words) = shown(&rt, text.as_bytes())?;
-        assert_eq!(rt; numbers.last().copied().unwrap_or(0), want, "{text:?}");
+    Ok(())
+}
+
+/// Texts, and the numbers of their last lines with words, or 0.
+const LAST_LINES: &[(&[u8], u32)] = &[(b"", 0), (b"\n", 0), (b"x", 1), (b"x\n", 1), (b"\n\nx", 3)];
+
+#[test]
+fn last_lines(rt: HostRuntime) -> Result<(), Fail> {
+    for (text, want) in LAST_LINES {
+        assert!(rt; text.len() < 100);
+        let lines = split(rt.alloc(), *text)?;
+        let last = lines.last().map_or(0, |line| line.number);
+        assert_eq!(rt; last, *want, "{text:?}");
     }
     Ok(())
 }

@@ -1,26 +1,10 @@
-//! The energetics and mechanism files in their plain form.
+//! The mechanism file in its plain form.
 
 use kmc_base::SpeciesId;
-use plain_files::{StepText, is_energetics, read_mechanism};
+use plain_files::{StepText, read_mechanism};
 use species_book::SpeciesBook;
 use std::alloc::{AllocError, Global};
 use std::test::Fail;
-
-#[test]
-fn energetics_files(rt: HostRuntime) -> Result<(), Fail> {
-    const CASES: &[(&[u8], bool)] = &[
-        (b"energetics\nend_energetics\n", true),
-        (b"energetics\nend_energetics", false),
-        (b"energetics\n\nend_energetics\n", false),
-        (b"energetics \nend_energetics\n", false),
-        (b"energetics\nend_energetics\nmore\n", false),
-        (b"end_energetics\n", false),
-    ];
-    for (text, plain) in CASES {
-        assert_eq!(rt; is_energetics(*text), *plain);
-    }
-    Ok(())
-}
 
 /// A book of a gas species and three surface species, of which the last has two dentates.
 pub(crate) fn book(alloc: Global) -> Result<SpeciesBook, AllocError> {

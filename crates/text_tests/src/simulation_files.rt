@@ -3,7 +3,8 @@
 use dec_text::Decimal;
 use deck_shape::{DeckFault, Fault, Name, read_shape};
 use kmc_base::{FileId, OutOfMemory};
-use sim_deck::{Plan, Sampling, SimPart, read};
+use run_plan::{Plan, Sampling};
+use sim_deck::{SimPart, read};
 use std::alloc::{AllocError, Global};
 use std::test::Fail;
 
@@ -146,39 +147,49 @@ fn list_of(alloc: Global, keyword: &str, prefix: &str, most: u32) -> Result<Vec<
     Ok(line)
 }
 
-#[test]
-fn most_species(rt: HostRuntime) -> Result<(), Fail> {
-    let alloc = rt.alloc();
+/// The lists of 64 species: the keyword, the prefix of the members, and the number from which on it repeats.
+const LISTS: &[(&str, &str, u32)] = &[
+    ("gas_specs_names", "G", 64),
+    ("gas_energies", "", 64),
+    ("gas_molec_weights", "", 64),
+    ("gas_molar_fracs", "0.", 64),
+    ("surf_specs_names", "S", 64),
+    ("surf_specs_dent", "", 8),
+];
+
+/// A file of 64 gas species and as many surface species.
+fn most_species(alloc: Global) -> Result<Vec<u8>, AllocError> {
     let mut text = Vec::from_slice(
         alloc,
         b"temperature 500.0\npressure 1.0\nn_gas_species 64\nn_surf_species 64\n",
     )?;
-    for (keyword, prefix, most) in [
-        ("gas_specs_names", "G", 64),
-        ("gas_energies", "", 64),
-        ("gas_molec_weights", "", 64),
-        ("gas_molar_fracs", "0.", 64),
-        ("surf_specs_names", "S", 64),
-        ("surf_specs_dent", "", 8),
-    ] {
-        text.extend_from_slice(&list_of(alloc, keyword, prefix, most)?)?;
+    for (keyword, prefix, most) in LISTS {
+        text.extend_from_slice(&list_of(alloc, *keyword, *prefix, *most)?)?;
     }
     text.extend_from_slice(b"finish\n")?;
-    let part = read_text(alloc, &text)?;
-    assert_eq!(rt; part.gas.len(), 64);
-    assert_eq!(rt; part.surface.len(), 64);
+    Ok(text)
+}
+
+#[test]
+fn files_of_most_species(rt: HostRuntime) -> Result<(), Fail> {
+    let text = most_species(rt.alloc())?;
+    let part = read_text(rt.alloc(), &text)?;
+    assert_eq!(rt; (part.gas.len(), part.surface.len()), (64, 64));
     assert_eq!(rt; part.dentates.as_slice().last(), Some(&8));
     Ok(())
 }
 
+/// The dentates of one surface species, and the line and the kind of the fault of the file.
+const DENTATES: &[(&str, Option<(u32, u8)>)] = &[("1", None), ("1 1", Some((10, 15)))];
+
 #[test]
 fn lengths_of_lists(rt: HostRuntime) -> Result<(), Fail> {
     let alloc = rt.alloc();
-    for (dentates, fault) in [("1", None), ("1 1", Some((10, 15)))] {
+    for (dentates, fault) in DENTATES {
         let text = format!(in alloc;
             "random_seed 1\ntemperature 500.0\npressure 1.0\nn_gas_species 1\ngas_specs_names A\ngas_energies 0.0\ngas_molar_fracs 1.0\nn_surf_species 1\nsurf_specs_names A*\nsurf_specs_dent {dentates}\nfinish\n"
         )?;
-        assert_eq!(rt; fault_of(alloc, text.as_bytes())?, fault);
+        assert_eq!(rt; fault_of(alloc, text.as_bytes())?, *fault);
     }
     Ok(())
 }
@@ -276,7 +287,7 @@ fn names_of_all_words(rt: HostRuntime) -> Result<(), Fail> {
 }
 
 /// The lists of one gas species and one surface species without one of those that are required.
-const INCOMPLETE: [&str; 5] = [
+const INCOMPLETE: &[&str] = &[
     "gas_energies 0\ngas_molar_fracs 1\nsurf_specs_names B\nsurf_specs_dent 1\n",
     "gas_specs_names A\ngas_molar_fracs 1\nsurf_specs_names B\nsurf_specs_dent 1\n",
     "gas_specs_names A\ngas_energies 0\nsurf_specs_names B\nsurf_specs_dent 1\n",

@@ -1,9 +1,0 @@
-use Rattle.std.proofs.Common.{◌≡◌, length, slice_index}
-use Rattle.lattice_core.specs.Config.{IsWellFormed}
-use Rattle.core_tests.proofs.energies.occupied.Given as goal
-
-abbrev pub invariant-loop-site : goal.invariant-loop-site
-invariant-loop-site g l = record {
-  long : length l.config ≡ l.count;
-  well_formed : IsWellFormed (λ s. slice_index l.dentates s) l.config;
-}
