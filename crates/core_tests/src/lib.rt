@@ -8,7 +8,3 @@ mod board_passes;
 mod draws_by_name;
 #[cfg(test)]
 mod rates_and_waits;
-#[cfg(test)]
-mod runs_of_the_core;
-#[cfg(test)]
-mod small_decks;

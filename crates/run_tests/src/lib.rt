@@ -17,6 +17,4 @@ mod sequences;
 #[cfg(test)]
 mod statuses;
 #[cfg(test)]
-mod summaries;
-#[cfg(test)]
 mod whole_runs;
