@@ -4,3 +4,4 @@ pub mod GasNumbers
 pub mod MergedEntries
 pub mod RenewedEntries
 pub mod Runs
+pub mod TimesNeverFall

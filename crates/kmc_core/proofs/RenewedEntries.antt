@@ -61,7 +61,7 @@ least-one P [] all = tt
 least-one P (e ∷ es) all = first-either (IsFiringOf P) (firing_of e) (least es) (firing-one P e all.0) (least-one P es all.1)
 
 -- what holds of the old entry, if there is one, and of the fresh one, holds of the chosen one
-chosen-either : (Q : Entry → Type 0) (fired : Option ℕ) (old : Option Entry) (new : Entry) → IfSome old Q → Q new → Q (kept_or fired old new)
+pub chosen-either : (Q : Entry → Type 0) (fired : Option ℕ) (old : Option Entry) (new : Entry) → IfSome old Q → Q new → Q (kept_or fired old new)
 chosen-either Q fired None new p q = q
 chosen-either Q fired (Some e) new p q =
     elim (same_rate e.lg new.lg && not (is_fired fired new.code)) as (λ t. Q (cond t e new)) [ true ↦ p | false ↦ q ]

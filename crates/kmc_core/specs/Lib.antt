@@ -2,4 +2,4 @@ pub mod DeckSystem
 pub mod Firing
 pub mod ListedProcess
 pub mod Run
-pub mod Stops
+pub mod Times

@@ -1,5 +1,5 @@
 -- A run of a deck: how far its trajectory has come.
-use Rattle.std.specs.Prelude.{◌≡◌, ℕ, ◌-◌, ◌*◌, ◌^◌, ◌≤◌, ℤ, unsigned_abs, List, length, Option, Some, option_and_then, IfSome}
+use Rattle.std.specs.Prelude.{◌≡◌, ℕ, ◌-◌, ◌*◌, ◌^◌, ◌≤◌, ℤ, unsigned_abs, List, length, Option, None, Some, option_and_then, IfSome}
 use Rattle.std.specs.List.{All}
 use Rattle.deck.specs.Soundness.{IsSound, dentates_in}
 use Rattle.deck.specs.declared.deck.Deck.{Deck}
@@ -7,8 +7,8 @@ use Rattle.kmc_base.specs.Entries.{least}
 use Rattle.kmc_base.specs.declared.entry.Entry.{Entry}
 use Rattle.kmc_base.specs.declared.entry.Firing.{Firing}
 use Rattle.kmc_core.specs.DeckSystem.{DeckState, system_of, trajectory_of}
-use Rattle.kmc_core.specs.Stops.{stop_at}
-use Rattle.kmc_core.specs.declared.stop.Stop.{Stop}
+use Rattle.kmc_report.specs.Stops.{stop_at}
+use Rattle.kmc_report.specs.declared.stop.Stop.{Stop}
 use Rattle.lattice_core.specs.Config.{IsWellFormed, state_at}
 use Rattle.lattice_core.specs.declared.state.State.{State}
 use Rattle.rate_rules.specs.Energy.{energy}
@@ -26,9 +26,14 @@ pub record OpenRun : Type 0 where
   pub event : ℕ
   pub undone : ℕ
 
+-- the time of the firing that comes first, if there is one
+abbrev pub time_of_first : Option Firing → Option ℕ
+time_of_first None = None
+time_of_first (Some first) = Some first.time
+
 -- whether and why the run ends at an event
 abbrev pub stop_of : Deck → ℕ → Option Stop
-stop_of deck event = option_and_then (λ s. stop_at deck.plan event s.time (least s.entries)) (trajectory_of deck event)
+stop_of deck event = option_and_then (λ s. stop_at deck.plan event s.time (time_of_first (least s.entries))) (trajectory_of deck event)
 
 -- the energy of a lattice in these states by the clusters of a deck, in neV
 abbrev pub energy_of : Deck → List State → ℤ

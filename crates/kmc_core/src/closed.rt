@@ -4,7 +4,7 @@ ghost use Rattle.deck.specs.Soundness.{IsSound, dentates_in};
 ghost use Rattle.kmc_base.specs.Entries.{least as least_of};
 ghost use Rattle.kmc_base.specs.declared.limits.TheConstants.{END_OF_TIME};
 ghost use Rattle.kmc_core.specs.DeckSystem.{opening as opening_of, system_of, trajectory_of};
-ghost use Rattle.kmc_core.specs.Run.{IsWithin, energy_of, stop_of};
+ghost use Rattle.kmc_core.specs.Run.{IsWithin, energy_of, stop_of, time_of_first};
 ghost use Rattle.lattice_core.specs.Config.{IsWellFormed};
 ghost use Rattle.lattice_core.specs.Lattice.{site_count};
 ghost use Rattle.trajectory.specs.Trajectory.{start};
@@ -12,11 +12,11 @@ ghost use Rattle.trajectory.specs.Trajectory.{start};
 use crate::entry_lists::EntryLists;
 use crate::fired::Fired;
 use crate::run_state::RunState;
-use crate::stop::{Stop, stop_at};
 use crate::total_energy::total_energy;
 use crate::unclosed::Unclosed;
 use deck::Deck;
 use kmc_base::{Firing, OutOfMemory};
+use kmc_report::{Stop, stop_at};
 use lattice_core::Config;
 use std::alloc::Global;
 use std::marker::Model;
@@ -61,6 +61,16 @@ fn opening(alloc: Global, deck: &Deck) -> Result<(RunState, EntryLists, i128), O
     let mut lists = EntryLists::none(alloc);
     lists.renew(alloc, deck, state.config(), 0, 0, None)?;
     Ok((state, lists.advanced(), energy))
+}
+
+/// The time of the firing that comes first, if there is one.
+fn time_of(first: Option<Firing>) -> Option<u128>
+    ensures { result ≡ time_of_first first }
+{
+    match first {
+        Some(first) => Some(first.time),
+        None => None,
+    }
 }
 
 impl Closed {
@@ -153,7 +163,7 @@ impl Closed {
     {
         let least = self.lists.current.least();
         match (
-            stop_at(&self.deck.plan, self.event, self.time, least),
+            stop_at(&self.deck.plan, self.event, self.time, time_of(least)),
             least,
         ) {
             (Some(stop), _) => Err(stop),

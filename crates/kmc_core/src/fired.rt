@@ -1,6 +1,6 @@
 use crate::closed::Closed;
-use crate::stop::Stop;
 use crate::unclosed::Unclosed;
+use kmc_report::Stop;
 
 /// What firing makes of a run: the next event, open, or the run as it was, and why it ends.
 #[derive(Debug, Drop)]

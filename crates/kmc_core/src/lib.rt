@@ -8,8 +8,8 @@
 //! of four reasons that holds: an output has all its samples, the greatest number of events is
 //! reached, nothing can fire any more, or what fires next comes after the greatest time.
 //!
-//! The crate builds on `deck` and `run_plan` for what is run, on `kmc_base` for entries and the rule
-//! by which they keep their times, on `lattice_core` for the lattice and its configuration, on
+//! The crate builds on `deck` and `run_plan` for what is run, on `kmc_report` for what stops a run, on
+//! `kmc_base` for entries and the rule by which they keep their times, on `lattice_core` for the lattice and its configuration, on
 //! `pattern_types` and `pattern_list` for patterns and their instances, on `rate_rules` for energies
 //! and rates, on `firing` for what an instance makes of the configuration, on `species_book` for the
 //! species, on `trajectory` for systems of events, on `fixed_math` for waiting times and on
@@ -20,14 +20,15 @@ mod closed;
 mod entries;
 mod entry_lists;
 mod fired;
+mod laws;
 mod listing;
 mod renewal;
 mod run_state;
-mod stop;
 mod total_energy;
 mod unclosed;
 
 pub use closed::Closed;
 pub use fired::Fired;
-pub use stop::Stop;
+pub use kmc_report::Stop;
+pub use laws::time_never_falls;
 pub use unclosed::{Unclosed, Undone};

@@ -6,7 +6,7 @@ use Rattle.std.specs.Prelude.{if◌then◌else◌, is_none}
 use Rattle.deck.specs.declared.deck.Deck.{Deck}
 use Rattle.kmc_base.specs.Outs.{Outs}
 use Rattle.kmc_core.specs.Run.{stop_of}
-use Rattle.kmc_core.specs.declared.stop.Stop.{Stop}
+use Rattle.kmc_report.specs.declared.stop.Stop.{Stop}
 use Rattle.kmc_run.proofs.WriteLemmas.{done_done, done_ended, done_none, ended_more, ended_none}
 use Rattle.kmc_run.specs.Samples.{events_after, events_from, writes_at}
 use Rattle.kmc_run.specs.Writes.{Write, Done, Ended}

@@ -1,0 +1,5 @@
+pub mod DueAtEvents
+pub mod DueBefore
+pub mod GivenSamples
+pub mod RunSamples
+pub mod SampleNumbers

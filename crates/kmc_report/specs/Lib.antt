@@ -1,0 +1,4 @@
+pub mod Runs
+pub mod Sampler
+pub mod Samples
+pub mod Stops
