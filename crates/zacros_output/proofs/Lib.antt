@@ -1,0 +1,3 @@
+pub mod AdsorbateCounts
+pub mod CountLemmas
+pub mod SiteNames

@@ -1,0 +1,7 @@
+pub mod Adsorbates
+pub mod History
+pub mod Procstat
+pub mod Shown
+pub mod Specnum
+pub mod Summary
+pub mod Words
