@@ -46,7 +46,7 @@ deck_with values clusters steps = record {
 unfoldable pub joined : DeckValues → List ℕ → Result Deck Fault
 joined values mechanism =
     and_then (names_in values) (λ clusters.
-    and_then (steps_in values.simulation mechanism) (λ steps.
+    and_then (steps_in (book_of values.simulation) mechanism) (λ steps.
     Ok (deck_with values clusters steps)))
 
 -- The deck of the texts of its files, or their first fault. The passes are, in order: whether the files are there and not

@@ -1,11 +1,10 @@
 //! From the texts of the files to the deck, or their first fault.
 
-ghost use Rattle.std.specs.Prelude.{◌≡◌, IfOk, map, true};
+ghost use Rattle.std.specs.Prelude.{◌≡◌, IfOk, map};
 ghost use Rattle.std.specs.List.{All};
 ghost use Rattle.deck.specs.Soundness.{IsSound};
 ghost use Rattle.plain_files.specs.Steps.{step_view};
 ghost use Rattle.deck_join.specs.Answers.{Reads};
-ghost use Rattle.deck_join.specs.Built.{is_built};
 ghost use Rattle.deck_join.specs.Decks.{deck_of, deck_with, joined};
 ghost use Rattle.deck_join.specs.Passes.{FileBytes};
 ghost use Rattle.deck_join.specs.SoundValues.{AreSoundValues};
@@ -70,11 +69,10 @@ fn joined(alloc: Global, files: &FileSlices, parts: Parts) -> Result<Deck, DeckF
     requires { AreSoundValues (values_at (bytes_of files.now) parts) }
     ensures value { Reads (λ deck. deck) result (joined (values_at (bytes_of files.now) parts) files.now.mechanism.now) }
     ensures sound { IfOk result IsSound }
-    ensures built { IfOk result (λ deck. is_built deck.plan ≡ true) }
 {
     let book = book_of(alloc, files.simulation, &parts.simulation)?;
     let clusters = names_in(alloc, files, &parts, &book)?;
-    let steps = steps_in(alloc, &parts.simulation, &book, files.mechanism)?;
+    let steps = steps_in(alloc, &book, files.mechanism)?;
     Ok(deck_with(alloc, parts, book, clusters, &steps)?)
 }
 
@@ -91,7 +89,6 @@ pub fn load_deck(alloc: Global, texts: &[(FileId, Text)]) -> Result<Deck, DeckFa
     requires short { All (λ text. IsShort text.1) texts.now }
     ensures value { Reads (λ deck. deck) result (deck_of (texts_in texts.now)) }
     ensures sound { IfOk result IsSound }
-    ensures built { IfOk result (λ deck. is_built deck.plan ≡ true) }
 {
     let files = files_in(
         text_at(texts, 0),

@@ -1,12 +1,11 @@
 //! From a folder to the deck of its files.
 
-ghost use Rattle.std.specs.Prelude.{◌≡◌, ◌∷◌, IfOk, IfErr, IfSome, List, None, OnOk, false, map, true};
+ghost use Rattle.std.specs.Prelude.{◌≡◌, ◌∷◌, IfOk, IfErr, IfSome, List, None, OnOk, false, map};
 ghost use Rattle.std.specs.List.{All};
 ghost use Rattle.std.specs.Option.{option_map};
 ghost use Rattle.deck.specs.Soundness.{IsSound};
 ghost use Rattle.kmc_base.specs.Faults.{OnlyFailed, SameCounts};
 ghost use Rattle.kmc_base.specs.Numbered.{next_fails, one_call_more};
-ghost use Rattle.deck_join.specs.Built.{is_built};
 ghost use Rattle.deck_join.specs.Decks.{deck_of_files};
 ghost use Rattle.deck_join.specs.Loads.{FailsInOrder, IsLoadFault, IsOfDeck, IsOfFiles, LoadsDeck, failed_load, first_failing, refusal_of};
 ghost use Rattle.deck_join.specs.Texts.{IsShort, deck_files, text_of, texts_in, texts_of};
@@ -86,7 +85,6 @@ pub fn read_deck<F: Folder>(alloc: Global, folder: &mut F) -> Result<Deck, DeckR
     // The deck is that of the files, and a fault is their first.
     ensures deck { IfSome (F.files folder.old) (λ told. IsOfFiles result (deck_of_files told)) }
     ensures sound { IfOk result IsSound }
-    ensures built { IfOk result (λ deck. is_built deck.plan ≡ true) }
     // A load failed if and only if the count of that file rose in this call, and of no other.
     ensures cause { IfErr result (λ refusal. OnlyFailed (failed_load refusal) (F.read_faults folder.old) (F.read_faults folder.new)) }
     ensures no_fault { OnOk result (SameCounts (F.read_faults folder.old) (F.read_faults folder.new)) }

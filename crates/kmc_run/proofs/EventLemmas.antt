@@ -4,12 +4,11 @@ use Rattle.std.proofs.lemmas.List.{append_assoc, append-nil}
 use Rattle.std.specs.List.{flat_map}
 use Rattle.std.specs.Prelude.{if◌then◌else◌, is_none}
 use Rattle.deck.specs.declared.deck.Deck.{Deck}
-use Rattle.kmc_base.specs.Outs.{Outs}
 use Rattle.kmc_core.specs.Run.{stop_of}
 use Rattle.kmc_report.specs.declared.stop.Stop.{Stop}
-use Rattle.kmc_run.proofs.WriteLemmas.{done_done, done_ended, done_none, ended_more, ended_none}
+use Rattle.kmc_run.proofs.WroteLemmas.{broke_first, wrote_broke, wrote_none, wrote_some, wrote_wrote}
 use Rattle.kmc_run.specs.Samples.{events_after, events_from, writes_at}
-use Rattle.kmc_run.specs.Writes.{Write, Done, Ended}
+use Rattle.kmc_run.specs.Writes.{BrokeOff, FolderState, Write, WroteAll}
 use Rattle.kmc_run.specs.declared.drive_fault.DriveFault.{DriveFault}
 use Rattle.kmc_run.specs.declared.drive_fault.DriveFault.TheVariants.{OutOfMemory}
 
@@ -50,13 +49,13 @@ flat-append f [] b = refl
 flat-append f (x ∷ a) b = ap (λ ws. f x ++ ws) (flat-append f a b) ∙ sym (append_assoc (f x) (flat_map f a) (flat_map f b))
 
 -- the events that a run has passed on its way from one event to another, with what was written at them
-pub record Passed (deck : Deck) (first event : ℕ) (x y : Option Outs) : Type 0 where
+pub record Passed (deck : Deck) (first event : ℕ) (x y : FolderState) : Type 0 where
   pub events : List ℕ
   pub all : events ++ events_from deck event ≡ events_from deck first
-  pub done : Done (flat_map (writes_at deck) events) x y
+  pub done : WroteAll (flat_map (writes_at deck) events) x y
 
-pub passed_none : (deck : Deck) (first : ℕ) (x : Option Outs) → Passed deck first first x x
-passed_none deck first x = record { events = []; all = refl; done = done_none x }
+pub passed_none : (deck : Deck) (first : ℕ) (x : FolderState) → Passed deck first first x x
+passed_none deck first x = record { events = []; all = refl; done = wrote_none x }
 
 -- the writes of all events, by those that were passed and the present one
 whole : (deck : Deck) (first event : ℕ) (events : List ℕ) → events ++ events_from deck event ≡ events_from deck first →
@@ -67,17 +66,17 @@ whole deck first event events all =
     ap (λ es. flat_map (writes_at deck) events ++ flat_map (writes_at deck) es) (sym (first-later deck (deck.plan.max_steps - event) event))
     ∙ (sym (flat-append (writes_at deck) events (events_from deck event)) ∙ ap (flat_map (writes_at deck)) all)
 
-one_more_event : (deck : Deck) (event : ℕ) (events : List ℕ) (x y z : Option Outs)
-    → Done (flat_map (writes_at deck) events) x y → Done (writes_at deck event) y z →
-    Done (flat_map (writes_at deck) (events ++ event ∷ [])) x z
+one_more_event : (deck : Deck) (event : ℕ) (events : List ℕ) (x y z : FolderState)
+    → WroteAll (flat_map (writes_at deck) events) x y → WroteAll (writes_at deck event) y z →
+    WroteAll (flat_map (writes_at deck) (events ++ event ∷ [])) x z
 one_more_event deck event events x y z p q =
-    subst (λ (ws : List Write). Done ws x z)
+    subst (λ (ws : List Write). WroteAll ws x z)
     (ap (λ ws. flat_map (writes_at deck) events ++ ws) (sym (append-nil (writes_at deck event)))
     ∙ sym (flat-append (writes_at deck) events (event ∷ [])))
-    (done_done (flat_map (writes_at deck) events) (writes_at deck event) x y z p q)
+    (wrote_wrote (flat_map (writes_at deck) events) (writes_at deck event) x y z p q)
 
 -- one more event is passed
-pub passed_one : (deck : Deck) (first event : ℕ) (x y z : Option Outs) → Passed deck first event x y → Done (writes_at deck event) y z →
+pub passed_one : (deck : Deck) (first event : ℕ) (x y z : FolderState) → Passed deck first event x y → WroteAll (writes_at deck event) y z →
     stop_of deck event ≡ None → event < deck.plan.max_steps → Passed deck first (event + 1) x z
 passed_one deck first event x y z p q is lt = record {
   events = p.events ++ event ∷ [];
@@ -86,51 +85,51 @@ passed_one deck first event x y z p q is lt = record {
 }
 
 -- the last event is passed: all is written
-pub passed_last : (deck : Deck) (first event : ℕ) (stop : Stop) (x y z : Option Outs)
-    → Passed deck first event x y → Done (writes_at deck event) y z →
-    stop_of deck event ≡ Some stop → Done (flat_map (writes_at deck) (events_from deck first)) x z
+pub passed_last : (deck : Deck) (first event : ℕ) (stop : Stop) (x y z : FolderState)
+    → Passed deck first event x y → WroteAll (writes_at deck event) y z →
+    stop_of deck event ≡ Some stop → WroteAll (flat_map (writes_at deck) (events_from deck first)) x z
 passed_last deck first event stop x y z p q is =
-    subst (λ (es : List ℕ). Done (flat_map (writes_at deck) es) x z)
+    subst (λ (es : List ℕ). WroteAll (flat_map (writes_at deck) es) x z)
     (ap (λ es. p.events ++ es) (sym (last-event deck event stop is)) ∙ p.all)
     (one_more_event deck event p.events x y z p.done q)
 
-pub passed_end : (deck : Deck) (first event : ℕ) (stop : Stop) (x y : Option Outs) → Passed deck first event x y
+pub passed_end : (deck : Deck) (first event : ℕ) (stop : Stop) (x y : FolderState) → Passed deck first event x y
     → stop_of deck event ≡ Some stop →
     (es : List ℕ) × (events_from deck first ≡ es ++ event ∷ [])
 passed_end deck first event stop x y p is = (p.events, sym p.all ∙ ap (λ es. p.events ++ es) (last-event deck event stop is))
 
 -- a write at the present event failed
-pub passed_fails : (deck : Deck) (first event : ℕ) (fault : DriveFault) (x y z : Option Outs)
-    → Passed deck first event x y → Ended (writes_at deck event) fault y z →
-    Ended (flat_map (writes_at deck) (events_from deck first)) fault x z
+pub passed_fails : (deck : Deck) (first event : ℕ) (fault : DriveFault) (x y z : FolderState)
+    → Passed deck first event x y → BrokeOff (writes_at deck event) fault y z →
+    BrokeOff (flat_map (writes_at deck) (events_from deck first)) fault x z
 passed_fails deck first event fault x y z p q =
     let others = flat_map (writes_at deck) (later deck (deck.plan.max_steps - event) event) in
-    subst (λ (ws : List Write). Ended ws fault x z) (whole deck first event p.events p.all)
-    (done_ended (flat_map (writes_at deck) p.events) (writes_at deck event ++ others) fault x y z p.done
-    (ended_more (writes_at deck event) others fault y z q))
+    subst (λ (ws : List Write). BrokeOff ws fault x z) (whole deck first event p.events p.all)
+    (wrote_broke (flat_map (writes_at deck) p.events) (writes_at deck event ++ others) fault x y z p.done
+    (broke_first (writes_at deck event) others fault y z q))
 
 -- memory ran out at the next event
-pub passed_stops : (deck : Deck) (first event : ℕ) (x y z : Option Outs) → Passed deck first event x y → Done (writes_at deck event) y z →
-    Ended (flat_map (writes_at deck) (events_from deck first)) OutOfMemory x z
+pub passed_stops : (deck : Deck) (first event : ℕ) (x y z : FolderState) → Passed deck first event x y → WroteAll (writes_at deck event) y z →
+    BrokeOff (flat_map (writes_at deck) (events_from deck first)) OutOfMemory x z
 passed_stops deck first event x y z p q =
     let others = flat_map (writes_at deck) (later deck (deck.plan.max_steps - event) event) in
-    subst (λ (ws : List Write). Ended ws OutOfMemory x z) (whole deck first event p.events p.all)
-    (done_ended (flat_map (writes_at deck) p.events) (writes_at deck event ++ others) OutOfMemory x y z p.done
-    (subst (λ (ws : List Write). Ended ws OutOfMemory y z) refl (done_ended (writes_at deck event) others OutOfMemory y z z q (ended_none others z))))
+    subst (λ (ws : List Write). BrokeOff ws OutOfMemory x z) (whole deck first event p.events p.all)
+    (wrote_broke (flat_map (writes_at deck) p.events) (writes_at deck event ++ others) OutOfMemory x y z p.done
+    (wrote_some (writes_at deck event) others y z q))
 
 -- the same deck, as it was read from the run
-pub done_at : (read deck : Deck) (event : ℕ) (x y : Option Outs) → read ≡ deck → Done (writes_at read event) x y
-    → Done (writes_at deck event) x y
-done_at read deck event x y is p = subst (λ (d : Deck). Done (writes_at d event) x y) is p
+pub done_at : (read deck : Deck) (event : ℕ) (x y : FolderState) → read ≡ deck → WroteAll (writes_at read event) x y
+    → WroteAll (writes_at deck event) x y
+done_at read deck event x y is p = subst (λ (d : Deck). WroteAll (writes_at d event) x y) is p
 
-pub ended_at : (read deck : Deck) (event : ℕ) (fault : DriveFault) (x y : Option Outs) → read ≡ deck
-    → Ended (writes_at read event) fault x y → Ended (writes_at deck event) fault x y
-ended_at read deck event fault x y is p = subst (λ (d : Deck). Ended (writes_at d event) fault x y) is p
+pub ended_at : (read deck : Deck) (event : ℕ) (fault : DriveFault) (x y : FolderState) → read ≡ deck
+    → BrokeOff (writes_at read event) fault x y → BrokeOff (writes_at deck event) fault x y
+ended_at read deck event fault x y is p = subst (λ (d : Deck). BrokeOff (writes_at d event) fault x y) is p
 
 pub stop_of_at : (read deck : Deck) (event : ℕ) (stop : Option Stop) → read ≡ deck → stop_of read event ≡ stop → stop_of deck event ≡ stop
 stop_of_at read deck event stop is p = subst (λ (d : Deck). stop_of d event ≡ stop) is p
 
-pub passed_at : (deck : Deck) (first event now : ℕ) (x y : Option Outs) → event ≡ now → Passed deck first event x y → Passed deck first now x y
+pub passed_at : (deck : Deck) (first event now : ℕ) (x y : FolderState) → event ≡ now → Passed deck first event x y → Passed deck first now x y
 passed_at deck first event now x y is p = subst (λ (n : ℕ). Passed deck first n x y) is p
 
 pub end_at : (deck : Deck) (first event now : ℕ) → event ≡ now

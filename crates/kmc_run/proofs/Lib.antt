@@ -1,7 +1,7 @@
-pub mod AdsorbateCounts
-pub mod CountLemmas
 pub mod DriveLemmas
 pub mod EventLemmas
+pub mod EventTimes
 pub mod SampleLemmas
+pub mod TimeSamples
 pub mod WriteLemmas
-pub mod WrittenPlans
+pub mod WroteLemmas

@@ -1,7 +1,6 @@
-pub mod Adsorbates
 pub mod Answers
+pub mod Given
 pub mod Samples
-pub mod Specnum
 pub mod Statuses
 pub mod Summaries
 pub mod Writes

@@ -3,7 +3,7 @@ use Rattle.std.specs.Prelude.{◌≡◌, ℕ, ◌++◌, ◌∷◌, [], List, Som
 use Rattle.deck.specs.declared.deck.Deck.{Deck}
 use Rattle.kmc_core.specs.DeckSystem.{trajectory_of}
 use Rattle.kmc_core.specs.Run.{energy_of, stop_of}
-use Rattle.kmc_run.specs.Adsorbates.{adsorbates}
+use Rattle.zacros_output.specs.Adsorbates.{adsorbates}
 use Rattle.kmc_run.specs.Samples.{events_from}
 use Rattle.kmc_run.specs.declared.summary.Summary.{Summary}
 

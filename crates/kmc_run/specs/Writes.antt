@@ -1,7 +1,11 @@
 -- The writes of a run, one after another, and what they make of the outputs.
-use Rattle.std.specs.Prelude.{◌≡◌, ℕ, List, [], ◌∷◌, ◌++◌, Option, None, Some}
+use Rattle.std.specs.Prelude.{◌≡◌, ℕ, List, [], ◌∷◌, ◌++◌, Option, None, Some, Result, Ok, Err}
+use Rattle.kmc_base.specs.Faults.{OnlyFailed, SameCounts}
+use Rattle.kmc_base.specs.Files.{Files}
+use Rattle.kmc_base.specs.Numbered.{Numbered}
 use Rattle.kmc_base.specs.Outs.{Outs, MayAppend, MayBegin, appended, begun}
 use Rattle.kmc_base.specs.Told.{Tells}
+use Rattle.kmc_base.specs.declared.ids.FileId.{FileId}
 use Rattle.kmc_base.specs.declared.ids.OutId.{OutId}
 use Rattle.kmc_run.specs.declared.drive_fault.DriveFault.{DriveFault}
 use Rattle.kmc_run.specs.declared.drive_fault.DriveFault.TheVariants.{WriteFault, OutOfMemory}
@@ -64,3 +68,45 @@ Ended writes fault before after = Tells before after (Stops writes fault)
 abbrev pub failed_output : DriveFault → Option OutId
 failed_output (WriteFault out) = Some out
 failed_output OutOfMemory = None
+
+-- All that a folder reports: its files and outputs, how often each of them has failed, and which of its loads fail.
+pub record FolderState : Type 0 where
+  pub files : Option Files
+  pub outs : Option Outs
+  pub read_faults : FileId → ℕ
+  pub write_faults : OutId → ℕ
+  pub loads : Option Numbered
+
+-- the same of a folder, by what its kind reports
+abbrev pub state_by : {F : Type 0} → (F → Option Files) → (F → Option Outs) → (F → FileId → ℕ) → (F → OutId → ℕ) → (F → Option Numbered)
+    → F → FolderState
+state_by files outs read_faults write_faults loads folder = record {
+  files = files folder;
+  outs = outs folder;
+  read_faults = read_faults folder;
+  write_faults = write_faults folder;
+  loads = loads folder;
+}
+
+-- no file was read, and none has changed
+pub record ReadNothing (before after : FolderState) : Type 0 where
+  pub files : after.files ≡ before.files
+  pub faults : SameCounts before.read_faults after.read_faults
+  pub loads : after.loads ≡ before.loads
+
+-- all of the writes were done, and none has failed
+pub record WroteAll (writes : List Write) (before after : FolderState) : Type 0 where
+  pub reads : ReadNothing before after
+  pub faults : SameCounts before.write_faults after.write_faults
+  pub outs : Done writes before.outs after.outs
+
+-- the writes were broken off by a fault, which is the only one
+pub record BrokeOff (writes : List Write) (fault : DriveFault) (before after : FolderState) : Type 0 where
+  pub reads : ReadNothing before after
+  pub faults : OnlyFailed (failed_output fault) before.write_faults after.write_faults
+  pub outs : Ended writes fault before.outs after.outs
+
+-- What a call that writes leaves: all its writes are done, or they were broken off.
+abbrev pub Wrote : {X : Type 0} → List Write → Result X DriveFault → FolderState → FolderState → Type 0
+Wrote writes (Ok x) before after = WroteAll writes before after
+Wrote writes (Err fault) before after = BrokeOff writes fault before after

@@ -4,21 +4,23 @@ ghost use Rattle.deck.specs.Soundness.{IsSound};
 ghost use Rattle.kmc_base.specs.Faults.{OnlyFailed, SameCounts};
 ghost use Rattle.kmc_core.specs.DeckSystem.{trajectory_of};
 ghost use Rattle.kmc_core.specs.Run.{energy_of, stop_of};
-ghost use Rattle.kmc_run.specs.Adsorbates.{adsorbates};
-ghost use Rattle.kmc_run.specs.Samples.{IsWritten, events_from, writes_at, run_writes};
+ghost use Rattle.kmc_run.specs.Samples.{events_from, writes_at, run_writes};
 ghost use Rattle.kmc_run.specs.Summaries.{IsSummary};
-ghost use Rattle.kmc_run.specs.Writes.{Done, Ended, failed_output};
+ghost use Rattle.kmc_run.specs.Writes.{Done, Ended, Wrote, failed_output, state_by};
+ghost use Rattle.zacros_output.specs.Adsorbates.{adsorbates};
 
-use crate::counting::adsorbates;
 use crate::drive_fault::DriveFault;
+use crate::heads::write_before;
+use crate::samples::write_at;
 use crate::summary::Summary;
-use crate::writing;
 use deck::Deck;
 use kmc_base::{Folder, Gate, OutOfMemory, Sequence};
 use kmc_core::{Closed, Fired, Stop, Unclosed};
+use kmc_report::Sampler;
 use std::alloc::Global;
 use std::marker::Sync;
 use std::thread::Threads;
+use zacros_output::adsorbates;
 
 /// The greatest number of workers of a run.
 pub const MAX_WORKERS: u32 = 64;
@@ -34,25 +36,24 @@ fn close(alloc: Global, mut next: Unclosed) -> Result<Closed, OutOfMemory>
     }
 }
 
-/// Runs from an event to the last one, and writes at each.
+/// Runs from an event to the last one, and writes the samples that show each.
 fn run_events<F: Folder>(
     alloc: Global,
     start: Closed,
     folder: &mut F,
 ) -> Result<(Closed, Stop), DriveFault>
+    requires { start.event ≡ 0 }
     ensures deck { IfOk result (λ last. last.0.deck ≡ start.deck) }
     ensures stop { IfOk result (λ last. stop_of start.deck last.0.event ≡ Some last.1) }
     ensures last { IfOk result (λ last. ((es : List ℕ) × (events_from start.deck start.event ≡ es ++ last.0.event ∷ []))) }
-    ensures ok { OnOk result (Done (flat_map (writes_at start.deck) (events_from start.deck start.event)) (F.outs folder.old) (F.outs folder.new)) }
-    ensures err { IfErr result (λ fault. Ended (flat_map (writes_at start.deck) (events_from start.deck start.event)) fault (F.outs folder.old) (F.outs folder.new)) }
-    ensures cause { IfErr result (λ fault. OnlyFailed (failed_output fault) (F.write_faults folder.old) (F.write_faults folder.new)) }
-    ensures no_fault { OnOk result (SameCounts (F.write_faults folder.old) (F.write_faults folder.new)) }
-    ensures reads { SameCounts (F.read_faults folder.old) (F.read_faults folder.new) }
-    ensures files { F.files folder.new ≡ F.files folder.old }
+    ensures wrote { Wrote (flat_map (writes_at start.deck) (events_from start.deck start.event)) result
+        (state_by F.files F.outs F.read_faults F.write_faults F.loads folder.old)
+        (state_by F.files F.outs F.read_faults F.write_faults F.loads folder.new) }
 {
+    let mut sampler = Sampler::new(&start.deck().plan);
     let mut closed = start;
     loop {
-        writing::write_at(alloc, &closed, folder)?;
+        write_at(alloc, &closed, &mut sampler, folder)?;
         match closed.fire() {
             Fired::Ended(last, stop) => return Ok((last, stop)),
             Fired::Next(next) => closed = close(alloc, next)?,
@@ -69,7 +70,7 @@ fn summary_of(alloc: Global, last: &Closed, stop: Stop) -> Result<Summary, OutOf
     ensures surface { IfOk result (λ summary. IsSomeAnd (trajectory_of last.now.deck last.now.event) (λ s. summary.surface ≡ adsorbates last.now.deck.book s.state.states)) }
     ensures gas { IfOk result (λ summary. IsSomeAnd (trajectory_of last.now.deck last.now.event) (λ s. summary.gas ≡ s.state.gas)) }
 {
-    let surface = adsorbates(alloc, last)?;
+    let surface = adsorbates(alloc, last.deck(), last.config())?;
     let gas = Vec::from_slice(alloc, last.gas())?;
     Ok(Summary {
         events: last.event(),
@@ -81,7 +82,24 @@ fn summary_of(alloc: Global, last: &Closed, stop: Stop) -> Result<Summary, OutOf
     })
 }
 
-/// Runs a sound deck to its end, and writes its outputs. Its plan is one whose samples are all written.
+/// Runs a sound deck to its end, and writes its outputs.
+fn run_deck<F: Folder>(alloc: Global, deck: Deck, folder: &mut F) -> Result<Summary, DriveFault>
+    requires { IsSound deck }
+    ensures summary { IfOk result (IsSummary deck) }
+    ensures wrote { Wrote (run_writes deck) result
+        (state_by F.files F.outs F.read_faults F.write_faults F.loads folder.old)
+        (state_by F.files F.outs F.read_faults F.write_faults F.loads folder.new) }
+{
+    let start = match Closed::start(alloc, deck) {
+        Ok(start) => start,
+        Err(_) => return Err(DriveFault::OutOfMemory),
+    };
+    write_before(alloc, start.deck(), folder)?;
+    let (last, stop) = run_events(alloc, start, folder)?;
+    Ok(summary_of(alloc, &last, stop)?)
+}
+
+/// Runs a sound deck to its end, and writes its outputs.
 ///
 /// # Errors
 ///
@@ -102,7 +120,6 @@ pub fn drive<R: Threads + Sync, F: Folder, G: Gate + Sync>(
     _spread: u32,
 ) -> Result<Summary, DriveFault>
     requires deck { IsSound deck }
-    requires written { IsWritten deck.plan }
     requires some_workers { 1 ≤ _workers }
     requires few_workers { _workers ≤ MAX_WORKERS }
     requires spread { 1 ≤ _spread }
@@ -114,11 +131,5 @@ pub fn drive<R: Threads + Sync, F: Folder, G: Gate + Sync>(
     ensures reads { SameCounts (F.read_faults folder.old) (F.read_faults folder.new) }
     ensures files { F.files folder.new ≡ F.files folder.old }
 {
-    let start = match Closed::start(alloc, deck) {
-        Ok(start) => start,
-        Err(_) => return Err(DriveFault::OutOfMemory),
-    };
-    writing::write_before(alloc, start.deck(), folder)?;
-    let (last, stop) = run_events(alloc, start, folder)?;
-    Ok(summary_of(alloc, &last, stop)?)
+    run_deck(alloc, deck, folder)
 }

@@ -2,14 +2,15 @@
 //!
 //! `run_program` is the program, from its words and the bytes of its input files to its status and the bytes of its
 //! outputs. It uses `deck_join` for the deck of the files or their first fault, `kmc_core` for the trajectory of the deck,
-//! and the folder, the screen and the gate of `kmc_base` for the outside.
+//! `kmc_report` for the samples that are due, `zacros_output` for their text, and the folder, the screen and the gate of
+//! `kmc_base` for the outside.
 #![tactic(auto)]
 
-mod counting;
 mod drive_fault;
 mod driving;
+mod heads;
 mod program;
-mod specnum;
+mod samples;
 mod status;
 mod summary;
 mod writing;

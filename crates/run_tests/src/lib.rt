@@ -3,6 +3,8 @@
 #![tactic(auto)]
 
 #[cfg(test)]
+mod all_outputs;
+#[cfg(test)]
 mod decks;
 #[cfg(test)]
 mod errors_as_text;

@@ -36,7 +36,7 @@ fn refuses<R: Threads + Sync + Abort>(
 
 #[test]
 fn refuses_simulation_files(rt: HostRuntime) -> Result<(), Fail> {
-    // The last lines of the file, and the line and the kind of its fault. Kind 0 is a file that kmc does not take.
+    // The last lines of the file, and the line and the kind of its fault.
     const CASES: &[(&str, u32, u8)] = &[
         (
             "pressure 1.0\nsurf_specs_dent 1\ntemperature 400.0\nfinish\n",
@@ -48,26 +48,6 @@ fn refuses_simulation_files(rt: HostRuntime) -> Result<(), Fail> {
             "pressure 1.0\nsurf_specs_dent 1 1\nfinish\n",
             10,
             kind::LIST_LENGTH,
-        ),
-        (
-            "pressure 1.0\nsurf_specs_dent 1\nsnapshots on event\nfinish\n",
-            0,
-            0,
-        ),
-        (
-            "pressure 1.0\nsurf_specs_dent 1\nprocess_statistics on event\nfinish\n",
-            0,
-            0,
-        ),
-        (
-            "pressure 1.0\nsurf_specs_dent 1\nspecies_numbers on time 1.0\nfinish\n",
-            0,
-            0,
-        ),
-        (
-            "pressure 1.0\nsurf_specs_dent 1\nmax_time 1.0\nfinish\n",
-            0,
-            0,
         ),
     ];
     for (rest, line, kind) in CASES {

@@ -1,4 +1,0 @@
-use Rattle.kmc_run.proofs.counting.adsorbates.Given as goal
-
-abbrev pub ghosts-adsorbates_on : goal.ghosts-adsorbates_on
-ghosts-adsorbates_on a = record { name = a.blank.name; parts = a.blank.parts }
