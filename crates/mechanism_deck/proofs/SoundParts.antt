@@ -3,7 +3,7 @@ use Rattle.std.proofs.Common.{◌≡◌, ◌∙◌, ◌+◌, ◌*◌, ◌++◌, 
 use Rattle.std.proofs.Common.{Bool, false, nat_lt, length, map, IfOk, List, [], ◌∷◌, Some, Result, Ok, Err, sum}
 use Rattle.std.proofs.lemmas.List.{map-append}
 use Rattle.std.proofs.lemmas.List.Sums.{sum_by-append, sum_by-cons}
-use Rattle.std.proofs.lemmas.Result.{IfOk-weaker}
+use Rattle.std.proofs.lemmas.Result.{IfOk-at_ok, IfOk-weaker}
 use Rattle.std.specs.List.{AllByRecursion, flat_map}
 use Rattle.std.specs.Result.{result_ok}
 use Rattle.deck_shape.specs.Blocks.{BlockLines, FileLines, SectionLines}
@@ -20,6 +20,7 @@ use Rattle.mechanism_deck.specs.Steps.{BodyValues, StepValues, VariantValues, bo
 use Rattle.mechanism_deck.specs.Steps.{step_with, steps_of, variant_values}
 use Rattle.mechanism_deck.proofs.SoundChanges.{gas-holds}
 use Rattle.mechanism_deck.proofs.SoundVariants.{IsVariant, variant-holds}
+use Rattle.pattern_rows.proofs.EntityRows.{AreEntities, entities-hold}
 use Rattle.pattern_rows.proofs.HeldParts.{all-hold, all_append, any-holds, not_more, without_sites}
 use Rattle.pattern_rows.proofs.Patterns.{makes_pattern}
 use Rattle.pattern_rows.specs.Edges.{edges_in}
@@ -65,6 +66,8 @@ module _ (block : BlockLines) (sites : ℕ) (stated : sites_in block ≡ Ok site
                 (makes_pattern block false Initial sites found.1.1.0 found.1.1.1.0 stated are.1.1.0 are.1.1.1.0);
             after = same_sites found.1.0 found.1.1.0 found.1.1.1.1 are.1.0
                 (makes_pattern block false Final sites found.1.1.0 found.1.1.1.1 stated are.1.1.0 are.1.1.1.1);
+            entities_before = IfOk-at_ok AreEntities are.1.1.1.0 (entities-hold (Some sites) Initial block);
+            entities_after = IfOk-at_ok AreEntities are.1.1.1.1 (entities-hold (Some sites) Final block);
           },
         ),
       ))

@@ -21,11 +21,13 @@ pub record AreChanges (gas : List GasWords) : Type 0 where
   pub differ : names_repeat (map (λ change. change.0.word.bytes) gas) ≡ false
   pub few : length gas ≤ MOST_CHANGES
 
--- what the sites hold before the step is a pattern, and so is what they hold after it
+-- what the sites hold before the step is a pattern, and so is what they hold after it; no row of them takes any state
 pub record IsSoundBody (body : BodyValues) : Type 0 where
   pub gas : AreChanges body.gas
   pub before : MakePattern body.sites body.edges body.before
   pub after : MakePattern body.sites body.edges body.after
+  pub entities_before : AllByRecursion (λ row. IsSome row) body.before
+  pub entities_after : AllByRecursion (λ row. IsSome row) body.after
 
 -- the numbers of a variant are in their ranges
 pub record AreInRange (variant : VariantValues) : Type 0 where

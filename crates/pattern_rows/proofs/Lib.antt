@@ -1,3 +1,4 @@
+pub mod EntityRows
 pub mod HeldParts
 pub mod ListedVariants
 mod NamesAbove
