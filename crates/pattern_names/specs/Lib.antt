@@ -1,0 +1,3 @@
+pub mod Sides
+pub mod Species
+pub mod Types
