@@ -1,7 +1,11 @@
 pub mod Chains
+pub mod GasChanges
+pub mod GasEnergies
 pub mod LoadLemmas
-pub mod Members
-pub mod PlainProcesses
+pub mod ReadLists
+pub mod ShortTexts
 pub mod SoundClusters
 pub mod SoundDecks
-pub mod ShortTexts
+pub mod SoundPatterns
+pub mod SoundProcesses
+pub mod SoundSteps

@@ -1,12 +1,14 @@
 pub mod Answers
-pub mod Built
 pub mod Clusters
 pub mod Decks
+pub mod Gas
 pub mod Loads
 pub mod Names
 pub mod Passes
+pub mod ProcessNames
 pub mod Processes
 pub mod SoundValues
 pub mod Species
+pub mod Steps
 pub mod Texts
 pub mod Views

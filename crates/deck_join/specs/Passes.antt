@@ -1,7 +1,7 @@
 -- The first three passes over the files of a deck: their bytes, their lines, and their values. Each gives what it found in
 -- every file, or the fault of the first file that has one.
 use Rattle.std.specs.Prelude.{ℕ, List, Result, Ok, Err}
-use Rattle.deck_shape.specs.Blocks.{BlockLines, FileLines}
+use Rattle.deck_shape.specs.Blocks.{FileLines}
 use Rattle.deck_shape.specs.LineFaults.{file_of_text}
 use Rattle.deck_shape.specs.Reading.{first_block}
 use Rattle.deck_shape.specs.declared.fault.Fault.{Fault}
@@ -10,6 +10,7 @@ use Rattle.energetics_deck.specs.Parts.{EnergeticsValues, part_of as energetics_
 use Rattle.kmc_base.specs.declared.ids.FileId.{FileId}
 use Rattle.kmc_base.specs.declared.ids.FileId.TheVariants.{Simulation, Lattice, Energetics, Mechanism}
 use Rattle.lattice_deck.specs.Parts.{LatticeValues, part_of as lattice_part_of}
+use Rattle.mechanism_deck.specs.Parts.{MechanismValues, part_of as mechanism_part_of}
 use Rattle.sim_deck.specs.Values.{SimValues, part_of as simulation_part_of}
 use Rattle.deck_join.specs.Answers.{and_then, file_fault, in_file}
 use Rattle.deck_join.specs.Texts.{Texts}
@@ -42,11 +43,12 @@ files_in texts =
 abbrev pub blocks_in : FileId → List ℕ → Result FileLines Fault
 blocks_in file bytes = in_file file (file_of_text (first_block file) bytes)
 
--- the lines of the files that are read by their blocks; the mechanism file is not so far
+-- the lines of the files by their blocks
 pub record DeckLines : Type 0 where
   pub simulation : FileLines
   pub lattice : FileLines
   pub energetics : FileLines
+  pub mechanism : FileLines
 
 -- the lines of the files, or the first fault of form
 unfoldable pub lines_in : FileBytes → Result DeckLines Fault
@@ -54,13 +56,15 @@ lines_in files =
     and_then (blocks_in Simulation files.simulation) (λ simulation.
     and_then (blocks_in Lattice files.lattice) (λ lattice.
     and_then (blocks_in Energetics files.energetics) (λ energetics.
-    Ok (record { simulation = simulation; lattice = lattice; energetics = energetics }))))
+    and_then (blocks_in Mechanism files.mechanism) (λ mechanism.
+    Ok (record { simulation = simulation; lattice = lattice; energetics = energetics; mechanism = mechanism })))))
 
--- the values of these files
+-- the values of the files
 pub record DeckValues : Type 0 where
   pub simulation : SimValues
   pub lattice : LatticeValues
   pub energetics : EnergeticsValues
+  pub mechanism : MechanismValues
 
 -- the values of the files, or the first fault of a value
 unfoldable pub values_in : DeckLines → Result DeckValues Fault
@@ -68,4 +72,5 @@ values_in lines =
     and_then (in_file Simulation (simulation_part_of lines.simulation.block)) (λ simulation.
     and_then (in_file Lattice (lattice_part_of lines.lattice.block)) (λ lattice.
     and_then (in_file Energetics (energetics_part_of lines.energetics)) (λ energetics.
-    Ok (record { simulation = simulation; lattice = lattice; energetics = energetics }))))
+    and_then (in_file Mechanism (mechanism_part_of lines.mechanism)) (λ mechanism.
+    Ok (record { simulation = simulation; lattice = lattice; energetics = energetics; mechanism = mechanism })))))

@@ -1,32 +1,55 @@
--- The processes of a plain mechanism file.
-use Rattle.std.specs.Prelude.{◌*◌, ◌^◌, [], ◌∷◌, Option, None, Some, pos, true}
-use Rattle.fixed_math.specs.DecimalLogarithm.{lg_of_decimal}
-use Rattle.kmc_base.specs.declared.ids.SpeciesId.{SpeciesId}
+-- The processes of the steps of a mechanism file: a forward one of each step, and of a reversible one the reverse after it.
+use Rattle.std.specs.Prelude.{ℕ, true, false, [], ◌∷◌, List, None, if◌then◌else◌}
+use Rattle.std.specs.List.{flat_map}
+use Rattle.deck_join.specs.Gas.{GasNumbers, consumed_of, gas_energy, reversed}
+use Rattle.deck_join.specs.Steps.{NamedStep}
+use Rattle.pattern_names.specs.Types.{types_for}
 use Rattle.pattern_types.specs.Parts.{PatternParts, pattern_of}
 use Rattle.pattern_types.specs.declared.wanted.Wanted.{Wanted}
-use Rattle.pattern_types.specs.declared.wanted.Wanted.TheVariants.{Vacant, Holds}
-use Rattle.plain_files.specs.Steps.{Step}
+use Rattle.rate_rules.specs.Factor.{factor_of}
 use Rattle.rate_rules.specs.declared.chemistry.Process.{Process}
 
--- what a side of a step wants of its site: to be vacant, or to hold an adsorbate of one dentate, which is entity 1
-abbrev pub wanted_at : Option SpeciesId → Wanted
-wanted_at None = Vacant
-wanted_at (Some species) = Holds 1 species 1
+-- a side of a step that wants these states
+abbrev pub side_of : List (List ℕ) → NamedStep → List Wanted → PatternParts
+side_of type_names step wanted =
+    pattern_of step.step.body.edges (types_for type_names step.step.body.sites step.step.variant.types) wanted
 
--- one side of a step on one site, of any type
-abbrev pub side_of : Option SpeciesId → PatternParts
-side_of state = pattern_of [] (None ∷ []) (wanted_at state ∷ [])
-
--- The process of a step: it is forward and changes no gas. Its proximity factor is 1/2, in 10^-9; its activation energy is
--- in neV.
-abbrev pub process_of : Step → Process
-process_of step = record {
-  before = side_of step.before;
-  after = side_of step.after;
+-- The forward process of a step. Its factor is the pre-exponential factor, times pressure times molar fraction for each gas
+-- molecule that it consumes.
+abbrev pub forward_of : GasNumbers → List (List ℕ) → NamedStep → Process
+forward_of gases type_names step = record {
+  before = side_of type_names step step.changes.before;
+  after = side_of type_names step step.changes.after;
   forward = true;
-  gas = pos 0;
-  gas_change = [];
-  factor = lg_of_decimal step.digits (pos step.power);
-  activation = pos (step.activation * 10 ^ 9);
-  proximity = 500000000;
+  gas = gas_energy gases.energies step.changes.gas;
+  gas_change = step.changes.gas;
+  factor = factor_of step.step.variant.pre_expon None gases.pressure (consumed_of gases.fractions step.changes.gas);
+  activation = step.step.variant.activation;
+  proximity = step.step.variant.proximity;
 }
+
+-- The reverse process of a step: the two sides are exchanged, and gas changes the other way. Its pre-exponential factor is
+-- that of the forward process over `pe_ratio`; the activation energy and the gas energy are those of the forward direction.
+abbrev pub reverse_of : GasNumbers → List (List ℕ) → NamedStep → Process
+reverse_of gases type_names step = record {
+  before = side_of type_names step step.changes.after;
+  after = side_of type_names step step.changes.before;
+  forward = false;
+  gas = gas_energy gases.energies step.changes.gas;
+  gas_change = reversed step.changes.gas;
+  factor = factor_of step.step.variant.pre_expon step.step.variant.pe_ratio gases.pressure
+      (consumed_of gases.fractions (reversed step.changes.gas));
+  activation = step.step.variant.activation;
+  proximity = step.step.variant.proximity;
+}
+
+-- the processes of a step
+abbrev pub processes_of_step : GasNumbers → List (List ℕ) → NamedStep → List Process
+processes_of_step gases type_names step =
+    if step.step.body.reversible
+    then forward_of gases type_names step ∷ reverse_of gases type_names step ∷ []
+    else forward_of gases type_names step ∷ []
+
+-- the processes of steps, in their order
+abbrev pub processes_of : GasNumbers → List (List ℕ) → List NamedStep → List Process
+processes_of gases type_names steps = flat_map (processes_of_step gases type_names) steps

@@ -1,7 +1,7 @@
 //! Faults of a file as a whole, and of a line of a file.
 
 ghost use Rattle.std.specs.Prelude.{◌≡◌};
-ghost use Rattle.deck_join.specs.Answers.{fault_in, file_fault};
+ghost use Rattle.deck_join.specs.Answers.{Reads, fault_in, file_fault, in_file};
 ghost use Rattle.deck_shape.specs.declared.fault.DeckFault.TheVariants.{Fault as Faulty};
 
 use deck_shape::{DeckFault, Fault};
@@ -28,4 +28,14 @@ pub(crate) fn fault_in(file: FileId, fault: LineFault) -> DeckFault
         line: fault.line,
         kind: fault.kind,
     })
+}
+
+/// What is read of a file, or its fault.
+pub(crate) fn in_file<T: Drop>(file: FileId, read: Result<T, LineFault>) -> Result<T, DeckFault>
+    ensures { Reads (λ value. value) result (in_file file read) }
+{
+    match read {
+        Ok(value) => Ok(value),
+        Err(fault) => Err(fault_in(file, fault)),
+    }
 }

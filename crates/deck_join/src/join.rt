@@ -3,52 +3,54 @@
 ghost use Rattle.std.specs.Prelude.{◌≡◌, IfOk, map};
 ghost use Rattle.std.specs.List.{All};
 ghost use Rattle.deck.specs.Soundness.{IsSound};
-ghost use Rattle.plain_files.specs.Steps.{step_view};
 ghost use Rattle.deck_join.specs.Answers.{Reads};
 ghost use Rattle.deck_join.specs.Decks.{deck_of, deck_with, joined};
+ghost use Rattle.deck_join.specs.Names.{DeckNames};
 ghost use Rattle.deck_join.specs.Passes.{FileBytes};
+ghost use Rattle.deck_join.specs.ProcessNames.{names_of};
+ghost use Rattle.deck_join.specs.Processes.{processes_of};
 ghost use Rattle.deck_join.specs.SoundValues.{AreSoundValues};
 ghost use Rattle.deck_join.specs.Species.{book_of};
 ghost use Rattle.deck_join.specs.Texts.{IsShort, deck_files, texts_in};
-ghost use Rattle.deck_join.specs.Views.{bytes_of, values_at};
+ghost use Rattle.deck_join.specs.Views.{bytes_of, gases_at, values_at};
 
-use crate::built::steps_in;
 use crate::file_slices::{FileSlices, files_in};
-use crate::names::names_in;
+use crate::names::{Names, names_in};
 use crate::parts::{Parts, read_parts};
-use crate::processes::{names_of, processes_of};
+use crate::process_names::names_of;
+use crate::processes::processes_of;
 use crate::radius::radius_of;
 use crate::shapes::read_shapes;
 use crate::species::book_of;
 use crate::text::{Text, text_at};
 use deck::Deck;
 use deck_shape::DeckFault;
-use kmc_base::{FileId, OutOfMemory, Sequence};
-use plain_files::StepText;
-use rate_rules::{Chemistry, Cluster};
+use kmc_base::{FileId, Sequence};
+use rate_rules::{Chemistry, Cluster, Process};
 use species_book::SpeciesBook;
 use std::alloc::Global;
 
-/// The deck of what is read, the clusters and the steps.
+/// The deck of what is read and what is made of it.
 fn deck_with(
     alloc: Global,
     parts: Parts,
     book: SpeciesBook,
     clusters: Vec<Cluster>,
-    steps: &[StepText],
-) -> Result<Deck, OutOfMemory>
-    ensures value { (files : FileBytes) → book ≡ book_of (values_at files parts).simulation
-        → IfOk result (λ deck. deck ≡ deck_with (values_at files parts) clusters.items (map step_view steps.now)) }
+    processes: Vec<Process>,
+    process_names: Vec<Sequence<u8>>,
+) -> Deck
+    ensures { (files : FileBytes) (names : DeckNames) → book ≡ book_of (values_at files parts).simulation → clusters.items ≡ names.clusters
+        → processes.items ≡ processes_of (gases_at parts.simulation) (values_at files parts).lattice.type_names names.steps
+        → process_names.items ≡ names_of names.steps → result ≡ deck_with (values_at files parts) names }
 {
     let Parts {
         simulation,
         lattice,
         energetics: _energetics,
+        mechanism: _mechanism,
     } = parts;
-    let processes = processes_of(alloc, steps)?;
-    let process_names = names_of(alloc, steps)?;
     let radius = radius_of(processes.as_slice(), clusters.as_slice());
-    Ok(Deck {
+    Deck {
         chem: Chemistry {
             graph: lattice.graph,
             processes: Sequence::new(processes),
@@ -60,28 +62,36 @@ fn deck_with(
         book,
         process_names: Sequence::new(process_names),
         opening: Sequence::new(Vec::new(alloc)),
-    })
+    }
 }
 
-/// The deck of the files, or the first fault of a name or of what kmc does not take so far.
+/// The deck of the files, or the first fault of a name.
 #[tactic(auto, unfolding(crate::specs::Decks::joined))]
 fn joined(alloc: Global, files: &FileSlices, parts: Parts) -> Result<Deck, DeckFault>
     requires { AreSoundValues (values_at (bytes_of files.now) parts) }
-    ensures value { Reads (λ deck. deck) result (joined (values_at (bytes_of files.now) parts) files.now.mechanism.now) }
+    ensures value { Reads (λ deck. deck) result (joined (values_at (bytes_of files.now) parts)) }
     ensures sound { IfOk result IsSound }
 {
     let book = book_of(alloc, files.simulation, &parts.simulation)?;
-    let clusters = names_in(alloc, files, &parts, &book)?;
-    let steps = steps_in(alloc, &book, files.mechanism)?;
-    Ok(deck_with(alloc, parts, book, clusters, &steps)?)
+    let Names { clusters, steps } = names_in(alloc, files, &parts, &book)?;
+    let type_names = parts.lattice.type_names.as_slice();
+    let processes = processes_of(
+        alloc,
+        files.mechanism,
+        &parts.simulation,
+        type_names,
+        &steps,
+    )?;
+    let process_names = names_of(alloc, files.mechanism, &steps)?;
+    drop(steps);
+    Ok(deck_with(alloc, parts, book, clusters, processes, process_names))
 }
 
 /// The deck of the texts of its files, or their first fault.
 ///
 /// The texts are those of the simulation file, the lattice file, the energetics file and the mechanism file, in this order.
 /// Faults are looked for in passes over the files: whether they are there and not too long; the form of their lines; their
-/// values; their names of species and site types; and what kmc does not take so far. The first fault is that of the
-/// earliest pass that has one, and of one pass that of the first file. In a file it is that of the earliest line, and of
+/// values; and their names of species and site types. The first fault is that of the earliest pass that has one, and of one pass that of the first file. In a file it is that of the earliest line, and of
 /// one line that of the least kind.
 #[tactic(auto, unfolding(crate::specs::Decks::deck_of))]
 pub fn load_deck(alloc: Global, texts: &[(FileId, Text)]) -> Result<Deck, DeckFault>

@@ -15,15 +15,17 @@ use crate::shapes::Shapes;
 use deck_shape::DeckFault;
 use energetics_deck::EnergeticsPart;
 use lattice_deck::LatticePart;
+use mechanism_deck::MechanismPart;
 use sim_deck::SimPart;
 use std::alloc::Global;
 
-/// The values of the files that are read by their blocks.
+/// The values of the files.
 #[derive(Debug, Drop)]
 pub(crate) struct Parts {
     pub(crate) simulation: SimPart,
     pub(crate) lattice: LatticePart,
     pub(crate) energetics: EnergeticsPart,
+    pub(crate) mechanism: MechanismPart,
 }
 
 /// The values of the files, or the first fault of a value.
@@ -39,9 +41,11 @@ pub(crate) fn read_parts(
     let simulation = sim_deck::read(alloc, files.simulation, &shapes.simulation)?;
     let lattice = lattice_deck::read(alloc, files.lattice, &shapes.lattice)?;
     let energetics = energetics_deck::read(alloc, files.energetics, &shapes.energetics)?;
+    let mechanism = mechanism_deck::read(alloc, files.mechanism, &shapes.mechanism)?;
     Ok(Parts {
         simulation,
         lattice,
         energetics,
+        mechanism,
     })
 }

@@ -10,12 +10,13 @@ use deck_shape::{DeckFault, Shape, read_shape};
 use kmc_base::FileId;
 use std::alloc::Global;
 
-/// The shapes of the files that are read by their blocks.
+/// The shapes of the files.
 #[derive(Debug, Drop)]
 pub(crate) struct Shapes {
     pub(crate) simulation: Shape,
     pub(crate) lattice: Shape,
     pub(crate) energetics: Shape,
+    pub(crate) mechanism: Shape,
 }
 
 /// The shapes of the files, or the first fault of form.
@@ -27,9 +28,11 @@ pub(crate) fn read_shapes(alloc: Global, files: &FileSlices) -> Result<Shapes, D
     let simulation = read_shape(alloc, FileId::Simulation, files.simulation)?;
     let lattice = read_shape(alloc, FileId::Lattice, files.lattice)?;
     let energetics = read_shape(alloc, FileId::Energetics, files.energetics)?;
+    let mechanism = read_shape(alloc, FileId::Mechanism, files.mechanism)?;
     Ok(Shapes {
         simulation,
         lattice,
         energetics,
+        mechanism,
     })
 }

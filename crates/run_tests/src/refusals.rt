@@ -60,9 +60,9 @@ fn refuses_simulation_files(rt: HostRuntime) -> Result<(), Fail> {
     Ok(())
 }
 
-// Faults of form come before faults of values, those before an unknown site type, and that before what kmc does not take
-// yet, which is here a step of a species of two dentates. Of two faults of one of these kinds that of the simulation file
-// comes first.
+// Faults of form come before faults of values, those before faults of names, and of two faults of one of these passes that
+// of the earlier file comes first. A name is faulty here where a site type is unknown, or where a step has one dentate of a
+// species of two.
 #[test]
 fn refuses_lattice_files(rt: HostRuntime) -> Result<(), Fail> {
     const CASES: &[(&str, &str, FileId, u32, u8)] = &[
@@ -100,8 +100,8 @@ fn refuses_lattice_files(rt: HostRuntime) -> Result<(), Fail> {
             "pressure 1.0\nsurf_specs_dent 2\nfinish\n",
             LATTICE,
             FileId::Mechanism,
-            0,
-            0,
+            6,
+            kind::MISSING_DENTATE,
         ),
     ];
     for (rest, lattice, file, line, kind) in CASES {
@@ -145,8 +145,8 @@ fn refuses_with_the_first_fault(rt: HostRuntime) -> Result<(), Fail> {
             ENERGETICS,
             "more\n",
             FileId::Mechanism,
-            0,
-            0,
+            1,
+            kind::UNKNOWN_WORD,
         ),
     ];
     for (rest, lattice, energetics, mechanism, file, line, kind) in CASES {

@@ -1,6 +1,6 @@
 //! The tests of the crates that read text: lines and numbers, the meaning of words, the kinds of faults and which of them
-//! counts, the values of the simulation file, the names of species, and the plain form of the energetics and mechanism
-//! files. They call the public surface of those crates, and what they expect is written here.
+//! counts, the values of the simulation file, and the names of species. They call the public surface of those crates, and
+//! what they expect is written here.
 #![tactic(auto)]
 
 #[cfg(test)]
@@ -11,8 +11,6 @@ mod faults_in_order;
 mod lines_of_text;
 #[cfg(test)]
 mod numbers;
-#[cfg(test)]
-mod plain_form;
 #[cfg(test)]
 mod rows_of_words;
 #[cfg(test)]

@@ -1,9 +1,19 @@
 //! Looking up species by name.
 
-use crate::plain_form::book;
 use kmc_base::SpeciesId;
 use species_book::SpeciesBook;
+use std::alloc::{AllocError, Global};
 use std::test::Fail;
+
+/// A book of a gas species and three surface species, of which the last has two dentates.
+fn book(alloc: Global) -> Result<SpeciesBook, AllocError> {
+    let gas = vec![in alloc; Vec::from_slice(alloc, b"G")?]?;
+    let first = Vec::from_slice(alloc, b"A*")?;
+    let second = Vec::from_slice(alloc, b"B*")?;
+    let third = Vec::from_slice(alloc, b"C**")?;
+    let surface = vec![in alloc; first, second, third]?;
+    Ok(SpeciesBook::new(gas, surface, vec![in alloc; 1, 1, 2]?))
+}
 
 #[test]
 fn looks_gas_species_up(rt: HostRuntime) -> Result<(), Fail> {

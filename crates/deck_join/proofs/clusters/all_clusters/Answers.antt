@@ -1,5 +1,5 @@
 use Rattle.std.proofs.Common.{◌∙◌, ◌+◌, ◌∷◌, ap, drop, map, sym}
-use Rattle.deck_join.proofs.Members.{member}
+use Rattle.pattern_names.proofs.Members.{member}
 use Rattle.deck_join.specs.Clusters.{cluster_in}
 use Rattle.deck_values.proofs.EarliestFaults.{next_left}
 use Rattle.deck_values.proofs.FaultLists.{joined, joined_next}

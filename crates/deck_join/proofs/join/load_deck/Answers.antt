@@ -4,7 +4,6 @@ use Rattle.std.proofs.lemmas.Result.{err_from_is_err_and}
 use Rattle.deck_join.proofs.Chains.{ends}
 use Rattle.deck_join.proofs.ShortTexts.{short_at}
 use Rattle.deck_join.specs.Decks.{deck_of}
-use Rattle.deck_join.specs.Texts.{IsShort}
 use Rattle.deck_join.proofs.join.load_deck.Goals as goal
 
 pub text_at-requires : goal.text_at-requires

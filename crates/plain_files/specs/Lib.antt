@@ -1,4 +1,0 @@
-pub mod Mechanism
-pub mod Names
-pub mod Steps
-pub mod Text
