@@ -25,7 +25,7 @@ const PROCSTAT: &str = "procstat 1\nprocess 1 ads\n";
 const SPECNUM: &str = "specnum 1\ncolumns sample event time temperature energy A* A\n";
 
 /// Runs the program on a deck of nine sites. Each output has a head and samples; one that is not begun is an empty one here.
-fn writes<R: Threads + Sync + Abort>(
+pub(crate) fn writes<R: Threads + Sync + Abort>(
     rt: &R,
     alloc: Global,
     deck: &DeckTexts,

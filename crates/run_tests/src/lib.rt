@@ -11,6 +11,8 @@ mod errors_as_text;
 #[cfg(test)]
 mod folders_in_memory;
 #[cfg(test)]
+mod gas_and_steps;
+#[cfg(test)]
 mod refusals;
 #[cfg(test)]
 mod screens_in_memory;

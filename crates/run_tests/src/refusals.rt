@@ -115,6 +115,12 @@ fn refuses_lattice_files(rt: HostRuntime) -> Result<(), Fail> {
     Ok(())
 }
 
+/// A lattice file that ends in its cell, and a mechanism file with a word twice, above a row with an unknown species.
+const OPEN_CELL: &str = "lattice periodic_cell\nrepeat_cell 3 3\n";
+
+const TWICE: &str =
+    "mechanism\nstep ads\nsites 1\nsites 1\ninitial\n1 Q* 1\nfinal\n1 A* 1\npre_expon 1\nactiv_eng 0\nend_step\nend_mechanism\n";
+
 // Kind 1 is a file that is not there.
 #[test]
 fn refuses_with_the_first_fault(rt: HostRuntime) -> Result<(), Fail> {
@@ -147,6 +153,24 @@ fn refuses_with_the_first_fault(rt: HostRuntime) -> Result<(), Fail> {
             FileId::Mechanism,
             1,
             kind::UNKNOWN_WORD,
+        ),
+        (
+            SAMPLED,
+            OPEN_CELL,
+            ENERGETICS,
+            FILLS,
+            FileId::Lattice,
+            3,
+            kind::NOT_CLOSED,
+        ),
+        (
+            SAMPLED,
+            LATTICE,
+            ENERGETICS,
+            TWICE,
+            FileId::Mechanism,
+            4,
+            kind::REPEATED_WORD,
         ),
     ];
     for (rest, lattice, energetics, mechanism, file, line, kind) in CASES {
