@@ -116,6 +116,13 @@ const RATES: &[RateCase] = &[
         Some(-4_398_046_511_104),
     ),
     (None, 1_000_000_000, 500_000, None),
+    // The desorption of an adsorbate of -1 eV, with the factor 1e300.
+    (
+        Some(1_070_067_939_600),
+        1_000_000_000,
+        500_000,
+        Some(1_034_115_239_213),
+    ),
 ];
 
 /// The logarithm of the rate of a case.
@@ -167,6 +174,13 @@ const BARRIERS: &[BarrierCase] = &[
     (1, 500_000_000, -1, 0, (0, 1)),
     (5, 0, -100, 7, (5, 105)),
     (5, 1_000_000_000, 10, 4, (11, 1)),
+    (
+        0,
+        500_000_000,
+        -1_000_000_000,
+        -1_000_000_000,
+        (0, 1_000_000_000),
+    ),
 ];
 
 /// The greatest magnitude of a reaction energy.
