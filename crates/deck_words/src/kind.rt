@@ -1,8 +1,5 @@
 //! The kinds of faults, by the numbers that are printed for them. Where several hold at a line, the least is its fault.
 
-/// The file is one that kmc does not take so far; line 0.
-pub const NOT_BUILT: u8 = 0;
-
 /// The file is not there; line 0.
 pub const FILE_ABSENT: u8 = 1;
 

@@ -3,7 +3,6 @@
 use deck_words::kind::*;
 
 const KINDS: &[(u8, u8)] = &[
-    (NOT_BUILT, 0),
     (FILE_ABSENT, 1),
     (FILE_TOO_LONG, 2),
     (STRAY_ROW, 3),
