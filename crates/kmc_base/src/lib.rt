@@ -28,6 +28,7 @@ pub use gate::{Gate, OpenGate};
 pub use ids::{ClusterId, FileId, OutId, ProcId, SiteId, SpeciesId};
 pub use limits::{
     END_OF_TIME, MAX_DENTATES, MAX_ENERGY, MAX_EVENTS, MAX_FILE_BYTES, MAX_SITES, MAX_SPECIES,
+    MAX_TEMPERATURE,
 };
 pub use memory_folder::MemoryFolder;
 pub use memory_sink::MemorySink;

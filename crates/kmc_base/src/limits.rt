@@ -18,5 +18,8 @@ pub const MAX_EVENTS: u64 = 1_099_511_627_775;
 /// The greatest magnitude of an energy that a deck states, in neV (10^-9 eV): 1,000 eV.
 pub const MAX_ENERGY: i128 = 1_000_000_000_000;
 
+/// The greatest temperature, in mK (10^-3 K): 10,000 K.
+pub const MAX_TEMPERATURE: u32 = 10_000_000;
+
 /// The greatest time, in attoseconds (10^-18 s): 10^12 s.
 pub const END_OF_TIME: u128 = 1_000_000_000_000_000_000_000_000_000_000;

@@ -2,7 +2,7 @@
 use Rattle.std.specs.Prelude.{◌≡◌, ℕ, ◌+◌, ◌-◌, ◌*◌, ◌^◌, ◌≤◌, max, true, List, length, map, unsigned_abs}
 use Rattle.std.specs.List.{All, fold}
 use Rattle.firing.specs.Soundness.{HasDentates, IsSoundSide}
-use Rattle.kmc_base.specs.declared.limits.TheConstants.{MAX_ENERGY}
+use Rattle.kmc_base.specs.declared.limits.TheConstants.{MAX_ENERGY, MAX_TEMPERATURE}
 use Rattle.lattice_core.specs.Config.{IsWellFormed, state_at}
 use Rattle.lattice_core.specs.Lattice.{IsLattice, site_count}
 use Rattle.lattice_core.specs.declared.state.State.{State}
@@ -49,7 +49,7 @@ radius_of processes clusters =
 pub record IsSoundChemistry (dentates : ℕ → ℕ) (chemistry : Chemistry) : Type 0 where
   pub lattice : IsLattice chemistry.graph
   pub some_temperature : 1 ≤ chemistry.temperature
-  pub temperature : chemistry.temperature ≤ 10000000
+  pub temperature : chemistry.temperature ≤ MAX_TEMPERATURE
   pub few_processes : length chemistry.processes ≤ MAX_PROCESSES
   pub few_clusters : length chemistry.clusters ≤ MAX_CLUSTERS
   pub processes : All (IsSoundProcess dentates) chemistry.processes

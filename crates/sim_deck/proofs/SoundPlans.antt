@@ -16,7 +16,7 @@ use Rattle.deck_words.specs.Tables.{same_word}
 use Rattle.deck_words.specs.declared.keyword.Keyword.{Keyword}
 use Rattle.deck_words.specs.declared.keyword.Keyword.TheVariants.{MaxSteps, MaxTime, Pressure, ProcessStatistics, RandomSeed}
 use Rattle.deck_words.specs.declared.keyword.Keyword.TheVariants.{Snapshots, SpeciesNumbers, Temperature}
-use Rattle.kmc_base.specs.declared.limits.TheConstants.{END_OF_TIME, MAX_EVENTS}
+use Rattle.kmc_base.specs.declared.limits.TheConstants.{END_OF_TIME, MAX_EVENTS, MAX_TEMPERATURE}
 use Rattle.sim_deck.specs.Samplings.{is_on, sampling_of}
 use Rattle.run_plan.specs.Soundness.{IsPeriod, IsSoundPlan}
 use Rattle.sim_deck.specs.Values.{conditions_in, limit_in, limits_in, or_infinity, plan_in, pressure_in, sampling_in, samplings_in}
@@ -104,11 +104,11 @@ plan-holds block =
 -- a temperature and a pressure in their ranges
 abbrev pub AreConditions : Plan × (ℕ × Scientific) → Type 0
 AreConditions found =
-    IsSoundPlan found.0 × ((1 ≤ found.1.0) × (found.1.0 ≤ 10000000)) × (is_up_to 9 found.1.1 ≡ true)
+    IsSoundPlan found.0 × ((1 ≤ found.1.0) × (found.1.0 ≤ MAX_TEMPERATURE)) × (is_up_to 9 found.1.1 ≡ true)
 
-temperature-holds : (block : BlockLines) → IfOk (temperature_in block) (λ t. (1 ≤ t) × (t ≤ 10000000))
+temperature-holds : (block : BlockLines) → IfOk (temperature_in block) (λ t. (1 ≤ t) × (t ≤ MAX_TEMPERATURE))
 temperature-holds block =
-    word-holds (λ t. (1 ≤ t) × (t ≤ 10000000)) (missing_word block.end_line) (amount_in TEMPERATURE) Temperature block.items tt
+    word-holds (λ t. (1 ≤ t) × (t ≤ MAX_TEMPERATURE)) (missing_word block.end_line) (amount_in TEMPERATURE) Temperature block.items tt
     (λ word. IfOk-weaker (amount_in TEMPERATURE word) _ _
     (λ t within. let a = within.0 in let b = within.1 in (omega (arith, ints), omega (arith, ints)))
     (amount-holds TEMPERATURE word (omega (arith, ints))))
@@ -120,6 +120,6 @@ pressure-holds block =
 pub conditions-hold : (block : BlockLines) → IfOk (conditions_in block) AreConditions
 conditions-hold block =
     IfOk-weaker (conditions_in block) _ AreConditions (λ found all. (all.0, all.1.0, all.1.1))
-    (both-holds IsSoundPlan (λ found. ((1 ≤ found.0) × (found.0 ≤ 10000000)) × (is_up_to 9 found.1 ≡ true)) (plan_in block) _ (plan-holds block)
-    (both-holds (λ t. (1 ≤ t) × (t ≤ 10000000)) (λ n. is_up_to 9 n ≡ true) (temperature_in block) (pressure_in block)
+    (both-holds IsSoundPlan (λ found. ((1 ≤ found.0) × (found.0 ≤ MAX_TEMPERATURE)) × (is_up_to 9 found.1 ≡ true)) (plan_in block) _ (plan-holds block)
+    (both-holds (λ t. (1 ≤ t) × (t ≤ MAX_TEMPERATURE)) (λ n. is_up_to 9 n ≡ true) (temperature_in block) (pressure_in block)
     (temperature-holds block) (pressure-holds block)))

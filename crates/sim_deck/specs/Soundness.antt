@@ -3,7 +3,7 @@ use Rattle.std.specs.Prelude.{◌≡◌, ℕ, ◌≤◌, true, false, List, map,
 use Rattle.std.specs.List.{All, list_any}
 use Rattle.deck_values.specs.Names.{is_bad_name, names_repeat}
 use Rattle.deck_values.specs.Numbers.{is_up_to}
-use Rattle.kmc_base.specs.declared.limits.TheConstants.{MAX_DENTATES, MAX_ENERGY, MAX_SPECIES}
+use Rattle.kmc_base.specs.declared.limits.TheConstants.{MAX_DENTATES, MAX_ENERGY, MAX_SPECIES, MAX_TEMPERATURE}
 use Rattle.run_plan.specs.Soundness.{IsSoundPlan}
 use Rattle.sim_deck.specs.Values.{SimValues}
 
@@ -17,7 +17,7 @@ pub record AreNames (names : List (List ℕ)) : Type 0 where
 pub record IsSoundPart (values : SimValues) : Type 0 where
   pub plan : IsSoundPlan values.plan
   pub some_temperature : 1 ≤ values.temperature
-  pub temperature : values.temperature ≤ 10000000
+  pub temperature : values.temperature ≤ MAX_TEMPERATURE
   pub pressure : is_up_to 9 values.pressure ≡ true
   pub gas : AreNames (map (λ name. name.word.bytes) values.gas)
   pub one_energy_each : length values.gas_energies ≡ length values.gas

@@ -2,7 +2,7 @@
 //! that other files have too are in deck_values.
 
 use deck_values::{ScaledRange, UpTo, WholeRange};
-use kmc_base::{END_OF_TIME, MAX_DENTATES, MAX_EVENTS, MAX_SPECIES};
+use kmc_base::{END_OF_TIME, MAX_DENTATES, MAX_EVENTS, MAX_SPECIES, MAX_TEMPERATURE};
 
 /// A number of species.
 pub const SPECIES_COUNT: WholeRange = WholeRange {
@@ -14,7 +14,7 @@ pub const SPECIES_COUNT: WholeRange = WholeRange {
 pub const TEMPERATURE: ScaledRange = ScaledRange {
     places: 3,
     least: 1,
-    most: 10_000_000,
+    most: MAX_TEMPERATURE as i128,
 };
 
 /// A pressure in bar, from 0 to 10^9.
