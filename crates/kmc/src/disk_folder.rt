@@ -51,24 +51,6 @@ impl<F: Drop> OpenOutputs<F> {
     }
 }
 
-fn name_of_input(file: FileId) -> &'static str {
-    match file {
-        FileId::Simulation => "simulation_input.dat",
-        FileId::Lattice => "lattice_input.dat",
-        FileId::Energetics => "energetics_input.dat",
-        FileId::Mechanism => "mechanism_input.dat",
-        FileId::State => "state_input.dat",
-    }
-}
-
-fn name_of_output(out: OutId) -> &'static str {
-    match out {
-        OutId::History => "history_output.txt",
-        OutId::Procstat => "procstat_output.txt",
-        OutId::Specnum => "specnum_output.txt",
-    }
-}
-
 fn load_input<R: Files>(
     runtime: &R,
     alloc: Global,
@@ -135,7 +117,7 @@ impl<R: Files> Folder for DiskFolder<R> {
     ghost loads = { λ _. None };
 
     fn load(&mut self, alloc: Global, file: FileId, max: usize) -> Result<Vec<u8>, LoadFault> {
-        let loaded = load_input(&self.runtime, alloc, name_of_input(file), max);
+        let loaded = load_input(&self.runtime, alloc, file.name(), max);
         if let Err(LoadFault::Failed) = &loaded {
             self.faults.read_failed(file);
         }
@@ -144,7 +126,7 @@ impl<R: Files> Folder for DiskFolder<R> {
 
     fn begin(&mut self, out: OutId) -> Result<(), Failed> {
         let _ = self.outputs.take(out);
-        match File::create(&self.runtime, name_of_output(out)) {
+        match File::create(&self.runtime, out.name()) {
             Ok(file) => {
                 self.outputs.keep(out, file);
                 Ok(())
@@ -158,7 +140,7 @@ impl<R: Files> Folder for DiskFolder<R> {
 
     fn append(&mut self, out: OutId, piece: &[u8]) -> Result<(), Failed> {
         let open = self.outputs.take(out);
-        match add_at_end(&self.runtime, open, name_of_output(out), piece) {
+        match add_at_end(&self.runtime, open, out.name(), piece) {
             Ok(file) => {
                 self.outputs.keep(out, file);
                 Ok(())

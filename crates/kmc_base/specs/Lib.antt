@@ -1,6 +1,7 @@
 pub mod Entries
 pub mod FaultCounts
 pub mod Faults
+pub mod FileNames
 pub mod Files
 pub mod InMemory
 pub mod Numbered

@@ -1,3 +1,5 @@
+ghost use Rattle.std.specs.Prelude.{◌≡◌};
+
 /// A site of the lattice, from 0. Decks and outputs print it plus 1.
 #[derive(Clone, Copy, Debug, PartialEq, Eq, PartialOrd, Ord, Hash)]
 pub struct SiteId(pub u32);
@@ -30,6 +32,23 @@ pub enum FileId {
     State,
 }
 
+impl FileId {
+    ghost use Rattle.kmc_base.specs.FileNames.{input_name};
+
+    /// The name of the file in the folder of a run.
+    pub fn name(self) -> &'static str
+        ensures { result.now ≡ input_name self }
+    {
+        match self {
+            FileId::Simulation => "simulation_input.dat",
+            FileId::Lattice => "lattice_input.dat",
+            FileId::Energetics => "energetics_input.dat",
+            FileId::Mechanism => "mechanism_input.dat",
+            FileId::State => "state_input.dat",
+        }
+    }
+}
+
 /// An output file, in the order in which they are begun.
 #[derive(Clone, Copy, Debug, PartialEq, Eq, PartialOrd, Ord, Hash)]
 pub enum OutId {
@@ -39,4 +58,19 @@ pub enum OutId {
     Procstat,
     /// `specnum_output.txt`: the numbers of molecules of each species.
     Specnum,
+}
+
+impl OutId {
+    ghost use Rattle.kmc_base.specs.FileNames.{output_name};
+
+    /// The name of the file in the folder of a run.
+    pub fn name(self) -> &'static str
+        ensures { result.now ≡ output_name self }
+    {
+        match self {
+            OutId::History => "history_output.txt",
+            OutId::Procstat => "procstat_output.txt",
+            OutId::Specnum => "specnum_output.txt",
+        }
+    }
 }
