@@ -111,10 +111,12 @@ fn lattice_of(alloc: Global, text: &[u8]) -> Result<Graph, Fail> {
     let Ok(rows) = read_rows(alloc, text, Some(2), &lines)? else {
         return Err("a fault of a row")?;
     };
+    if rows.len() != 2 {
+        return Err("a site without a row")?;
+    }
     let names = two_names(alloc)?;
     let index = TypeIndex::new(alloc, &names)?;
-    let graph = graph_of(alloc, text, 2, &index, &rows)?;
-    Ok(graph.ok().ok_or("a fault of the lattice")?)
+    Ok(graph_of(alloc, text, 2, &index, &rows)?)
 }
 
 #[test]

@@ -1,7 +1,9 @@
 mod FaultlessRows
+mod FullRows
 mod NumberLists
 mod Placed
 mod RowLookups
 mod RowWords
 mod Searches
+mod SitesOfRows
 mod TypeIndexes

@@ -11,9 +11,8 @@ use Rattle.std.proofs.lemmas.List.{append_assoc, get_or-set_other, get_or-set_sa
 use Rattle.std.proofs.lemmas.List.{map-set, same_lists}
 use Rattle.std.proofs.lemmas.List.FromFn.{get_or-map-range_with_len, length-map-range_with_len}
 use Rattle.kmc_base.specs.declared.ids.SiteId.{SiteId}
-use Rattle.lattice_core.specs.Fault.{lattice_from}
 use Rattle.lattice_core.specs.SiteList.{number_lists, site_numbers}
-use Rattle.site_rows.specs.Listed.{listed_lattice, neighbours_at, type_at}
+use Rattle.site_rows.specs.Listed.{neighbours_at, type_at}
 use Rattle.site_rows.specs.Placing.{AreNeighbours, AreTypes}
 use Rattle.site_rows.specs.SiteRows.{SiteRow, row_for}
 use Rattle.site_rows.specs.TypeWords.{type_of}
@@ -120,12 +119,3 @@ list_total lists n are =
 pub first_lists : (lists : List (Vec SiteId Global)) (n : ℕ) → number_lists lists ≡ replicate n [] → AreNeighbours [] lists
 first_lists lists n are =
     are ∙ all_same [] 0 n ∙ ap (λ m. map (neighbours_at []) (range_with_len 0 m)) (sym (list_total lists n are))
-
--- all rows are placed
-pub listed_is : (names : List (List ℕ)) (rows : List SiteRow) (types : List ℕ) (lists : List (Vec SiteId Global)) (n : ℕ)
-    → AreTypes names rows types → AreNeighbours rows lists → length types ≡ n → length lists ≡ n
-    → lattice_from types (number_lists lists) ≡ listed_lattice n names rows
-listed_is names rows types lists n are_types are_lists long many =
-    ap (λ ts. lattice_from ts (number_lists lists)) (are_types ∙ ap (λ m. map (type_at names rows) (range_with_len 0 m)) long)
-    ∙ ap (λ ls. lattice_from (map (type_at names rows) (range_with_len 0 n)) ls)
-    (are_lists ∙ ap (λ m. map (neighbours_at rows) (range_with_len 0 m)) many)

@@ -1,8 +1,8 @@
-ghost use Rattle.std.specs.Prelude.{◌≡◌, ◌-◌, ◌≤◌, [], All, IfErr, IfOk, None, OnOk, Some, length, map, replicate, slice_set};
+ghost use Rattle.std.specs.Prelude.{◌≡◌, ◌-◌, ◌≤◌, [], All, IfOk, None, OnOk, Some, length, map, replicate, slice_set, vec_len};
+ghost use Rattle.std.specs.List.{range_with_len};
 ghost use Rattle.dec_text.specs.Spans.{bytes_at};
-ghost use Rattle.lattice_core.specs.Fault.{first_fault};
 ghost use Rattle.lattice_core.specs.SiteList.{number_lists, site_numbers};
-ghost use Rattle.site_rows.specs.Listed.{listed_lattice, listed_neighbours};
+ghost use Rattle.site_rows.specs.Listed.{listed_lattice, listed_neighbours, type_at};
 ghost use Rattle.site_rows.specs.Placing.{AreNeighbours, AreTypes, IsSite, NamesSites};
 ghost use Rattle.site_rows.specs.ReadRows.{row_at};
 ghost use Rattle.site_rows.specs.RowFaults.{rows_fault};
@@ -12,7 +12,7 @@ ghost use Rattle.site_rows.specs.declared.type_word.TheConstants.{MAX_SITE_TYPES
 use crate::row::ReadRow;
 use crate::type_index::TypeIndex;
 use kmc_base::{MAX_SITES, OutOfMemory, SiteId};
-use lattice_core::{Graph, GraphFault};
+use lattice_core::Graph;
 use std::alloc::Global;
 
 /// Sites from their numbers, which are from 1.
@@ -83,23 +83,21 @@ fn place_rows(
     Ok(())
 }
 
-/// The lattice of rows that have no fault, whose sites are from 1 to `sites`. The rows may be in any order; the graph
-/// numbers its sites from 0. The type words are looked up in the index of the site types, of which there are at most
-/// 1,000; a site whose type word is no type, or that has no row, has type 0. A fault is the first of the lists of
-/// neighbours, as that of a row which names a site without a row.
-pub fn graph_of(
+/// The types and the neighbours of all sites, by rows without a fault.
+fn site_lists(
     alloc: Global,
     bytes: &[u8],
     sites: u32,
     index: &TypeIndex,
     rows: &[ReadRow],
-) -> Result<Result<Graph, GraphFault>, OutOfMemory>
-    requires has_a_site { 1 ≤ sites }
+) -> Result<(Vec<u16>, Vec<Vec<SiteId>>), OutOfMemory>
     requires within_limit { sites ≤ MAX_SITES }
     requires few_types { length index.now ≤ MAX_SITE_TYPES }
     requires faultless { rows_fault (Some sites) (map (row_at bytes.now) rows.now) ≡ None }
-    ensures lattice { IfOk result (λ graph. IfOk graph (λ g. g ≡ listed_lattice sites index.now (map (row_at bytes.now) rows.now))) }
-    ensures fault { IfOk result (λ graph. IfErr graph (λ e. first_fault (listed_neighbours sites (map (row_at bytes.now) rows.now)) ≡ Some e)) }
+    ensures types { IfOk result (λ made. made.0.items ≡ map (type_at index.now (map (row_at bytes.now) rows.now)) (range_with_len 0 sites)) }
+    ensures lists { IfOk result (λ made. number_lists made.1.items ≡ listed_neighbours sites (map (row_at bytes.now) rows.now)) }
+    ensures type_count { IfOk result (λ made. vec_len made.0 ≡ sites) }
+    ensures list_count { IfOk result (λ made. vec_len made.1 ≡ sites) }
 {
     let mut types = vec![in alloc; 0u16; sites as usize]?;
     let mut lists = empty_lists(alloc, sites)?;
@@ -111,5 +109,31 @@ pub fn graph_of(
         lists.as_mut_slice(),
         rows,
     )?;
-    Ok(Graph::new(types, lists))
+    Ok((types, lists))
+}
+
+/// The lattice of rows that have no fault, one for each site from 1 to `sites`. Such rows give a lattice without a fault,
+/// so that all that can be missing is memory.
+///
+/// The rows may be in any order; the graph numbers its sites from 0. The type words are looked up in the index of the site
+/// types, of which there are at most 1,000; a site whose type word is no type has type 0.
+pub fn graph_of(
+    alloc: Global,
+    bytes: &[u8],
+    sites: u32,
+    index: &TypeIndex,
+    rows: &[ReadRow],
+) -> Result<Graph, OutOfMemory>
+    requires has_a_site { 1 ≤ sites }
+    requires within_limit { sites ≤ MAX_SITES }
+    requires few_types { length index.now ≤ MAX_SITE_TYPES }
+    requires full { length rows.now ≡ sites }
+    requires faultless { rows_fault (Some sites) (map (row_at bytes.now) rows.now) ≡ None }
+    ensures { IfOk result (λ g. g ≡ listed_lattice sites index.now (map (row_at bytes.now) rows.now)) }
+{
+    let (types, lists) = site_lists(alloc, bytes, sites, index, rows)?;
+    match Graph::new(types, lists) {
+        Ok(graph) => Ok(graph),
+        Err(_) => unreachable!(),
+    }
 }
