@@ -14,6 +14,7 @@ use Rattle.lattice_deck.specs.declared.joins.JoinRow.{JoinRow}
 use Rattle.site_rows.specs.SiteRows.{SiteRow}
 use Rattle.site_rows.specs.declared.type_word.TheConstants.{MAX_SITE_TYPES}
 use Rattle.lattice_deck.proofs.Readings.{both_mapped, both_parts, is_ok, value_same, without_fault}
+use Rattle.lattice_deck.proofs.RowCounts.{rows_count}
 use Rattle.lattice_deck.proofs.SizesSound.{AreFew, IsIn, cell_bounds, names_bounds, sites_bounds, words_count}
 use Rattle.lattice_deck.specs.declared.ranges.TheConstants.{SITE_COUNT}
 
@@ -91,6 +92,16 @@ module _ {N R : Type 0} (f : N → List (List ℕ)) (g : R → List SiteRow)
       let bounds = is_ok (IsIn SITE_COUNT) (sites_in NSites block) s (sym sites_are ∙ all.0) (sites_bounds NSites block) in
       let short = is_ok (λ ns. length ns ≤ MAX_SITE_TYPES) (type_names block) (f n) (sym names_are ∙ ap (value_map f) lists.0) (names_bounds block) in
       (bounds.0, bounds.1, short)
+
+  -- there is a row for each site
+  pub listed_count : (s : ℕ) (n : N) (r : R) → value_map g rows ≡ listed_rows (result_ok (sites_in NSites block)) block
+      → with_fault unused (both sites (both names rows)) ≡ Ok (s, (n, r)) → length (g r) ≡ s
+  listed_count s n r rows_are is =
+      let all = both_parts sites (both names rows) (s, (n, r)) (without_fault unused (both sites (both names rows)) (s, (n, r)) is) in
+      let lists = both_parts names rows (n, r) all.1 in
+      let known : result_ok (sites_in NSites block) ≡ Some s = ap result_ok (sym sites_are ∙ all.0) in
+      is_ok (λ rs. length rs ≡ s) (listed_rows (Some s) block) (g r)
+      (ap (λ k. listed_rows k block) (sym known) ∙ sym rows_are ∙ ap (value_map g) lists.1) (rows_count s block)
 
   pub listed_read : value_map g rows ≡ listed_rows (result_ok (sites_in NSites block)) block → unused ≡ listed_unused block
       → with_fault (listed_unused block) (both (sites_in NSites block) (both (type_names block) (listed_rows (result_ok (sites_in NSites block))

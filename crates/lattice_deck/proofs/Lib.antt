@@ -2,5 +2,6 @@ mod CellFacts
 mod Displacements
 mod FewTypes
 mod Readings
+mod RowCounts
 mod SizesSound
 mod TypeWords

@@ -100,10 +100,10 @@ pub(crate) fn listed_graph(
     requires some { 1 ≤ sites }
     requires few { sites ≤ MAX_SITES }
     requires names { length names.now ≤ MAX_SITE_TYPES }
+    requires full { length rows.now ≡ sites }
     requires faultless { rows_fault (Some sites) (map (row_at bytes.now) rows.now) ≡ None }
     ensures { IfOk result (λ g. g ≡ listed_lattice sites (map (λ name. name.items) names.now) (map (row_at bytes.now) rows.now)) }
 {
     let index = TypeIndex::new(alloc, names)?;
-    let graph = site_rows::graph_of(alloc, bytes, sites as u32, &index, rows)?;
-    or_out_of_memory(graph)
+    site_rows::graph_of(alloc, bytes, sites as u32, &index, rows)
 }

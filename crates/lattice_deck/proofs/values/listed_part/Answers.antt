@@ -11,7 +11,7 @@ use Rattle.lattice_deck.specs.Parts.{LatticeValues, listed_rows, listed_values}
 use Rattle.site_rows.specs.Listed.{listed_lattice}
 use Rattle.site_rows.specs.ReadRows.{row_at}
 use Rattle.site_rows.specs.declared.row.ReadRow.{ReadRow}
-use Rattle.lattice_deck.proofs.CellFacts.{listed_chain, listed_facts, listed_read}
+use Rattle.lattice_deck.proofs.CellFacts.{listed_chain, listed_count, listed_facts, listed_read}
 use Rattle.lattice_deck.proofs.values.listed_part.Goals as goal
 
 pub listed_graph-requires-clause-some : goal.listed_graph-requires-clause-some
@@ -55,6 +55,21 @@ listed_graph-requires-clause-names c =
     let named : length c.deref.result.now ≡ length (f c.in-Ok.names) =
     ap length names_now ∙ sym (length-map c.in-Ok.names.items (λ (name : Vec ℕ Global). name.items)) in
     rw named facts.2
+
+pub listed_graph-requires-clause-full : goal.listed_graph-requires-clause-full
+listed_graph-requires-clause-full c =
+    let text = c.args.bytes.now in
+    let block = block_at text c.args.block.now in
+    let f = λ (n : Vec (Vec ℕ Global) Global). map (λ name. name.items) n.items in
+    let g = λ (r : Vec ReadRow Global). map (row_at text) r.items in
+    let sites_are = c.sites_in-sites.ensures in
+    let chain = listed_chain c.listed_unused.result c.sites_in-sites.result c.in_ok-names.names c.in_ok-rows.rows c.both.result c.both-read.result
+    c.with_fault.result c.both.ensures c.both-read.ensures c.with_fault.ensures in
+    let rows_are = c.in_ok-rows.ensures.rows ∙ ap (λ s. listed_rows s block) (c.ok.ensures.value ∙ ap result_ok sites_are) in
+    let count = listed_count f g block c.listed_unused.result c.sites_in-sites.result c.in_ok-names.names c.in_ok-rows.rows
+    sites_are c.in_ok-names.ensures c.in-Ok.sites c.in-Ok.names c.in-Ok.rows rows_are (chain ∙ c.in-Ok.is) in
+    let rows_now : c.deref-in-Ok.result.now ≡ c.in-Ok.rows.items = cc in
+    ap length rows_now ∙ sym (length-map c.in-Ok.rows.items (row_at text)) ∙ count
 
 pub returns-in_ok-words_of-in-Ok : goal.returns-in_ok-words_of-in-Ok
 returns-in_ok-words_of-in-Ok c =
