@@ -1,8 +1,12 @@
 pub mod CellNumbers
 pub mod Crowded
+pub mod DefaultCells
 pub mod EachOnce
+pub mod Ends
 pub mod Joining
 pub mod Merged
 pub mod Named
+pub mod NoFault
 pub mod Pushed
 pub mod Repeated
+pub mod Steps

@@ -1,4 +1,5 @@
 pub mod Cells
 pub mod Default
+pub mod Faultless
 pub mod Naming
 pub mod Periodic

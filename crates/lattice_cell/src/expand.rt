@@ -4,6 +4,7 @@ ghost use Rattle.lattice_core.specs.Fault.{first_fault, lattice_from};
 ghost use Rattle.lattice_core.specs.SiteList.{number_lists};
 ghost use Rattle.lattice_cell.specs.Cells.{IsInCell};
 ghost use Rattle.lattice_cell.specs.Default.{default_lattice};
+ghost use Rattle.lattice_cell.specs.Faultless.{IsFaultlessCell};
 ghost use Rattle.lattice_cell.specs.Periodic.{periodic_lattice};
 
 use crate::cell::{Join, Toward};
@@ -48,7 +49,7 @@ const NORTHEAST: Join = Join {
 ///
 /// `types` has the type of each site of the cell. All is counted from 0: the cell at `a` in the first direction and `b`
 /// in the second has number `a * ny + b`, and its site `k` has number `cell * types.len() + k`. `OutOfMemory` says
-/// nothing about the neighbours.
+/// nothing about the neighbours; where no join joins a site to itself and no site is crowded, it is the only error.
 ///
 /// Its work grows with the number of cells times the number of different joins.
 pub fn expand_periodic(
@@ -65,6 +66,7 @@ pub fn expand_periodic(
     ensures graph { IfOk result (λ g. g ≡ periodic_lattice nx ny types.now joins.now) }
     ensures fault { IfErr result (λ e. (e ≡ OutOfMemory)
         ⊎ (first_fault (periodic_lattice nx ny types.now joins.now).neighbours ≡ Some e)) }
+    ensures faultless { IsFaultlessCell nx ny (length types.now) joins.now → IfErr result (λ e. e ≡ OutOfMemory) }
 {
     let repeats = Repeats {
         nx,
@@ -78,8 +80,8 @@ pub fn expand_periodic(
 
 /// A default lattice of `nx` times `ny` sites, or the first fault of the neighbours.
 ///
-/// A direction with one site makes each site its own neighbour, which is a fault. `OutOfMemory` says nothing of the
-/// neighbours.
+/// A direction with one site makes each site its own neighbour, which is a fault; with two or more in each direction there
+/// is none. `OutOfMemory` says nothing of the neighbours.
 pub fn expand_default(
     alloc: Global,
     kind: DefaultLattice,
@@ -92,6 +94,7 @@ pub fn expand_default(
     ensures graph { IfOk result (λ g. g ≡ default_lattice kind nx ny) }
     ensures fault { IfErr result (λ e. (e ≡ OutOfMemory)
         ⊎ (first_fault (default_lattice kind nx ny).neighbours ≡ Some e)) }
+    ensures faultless { (2 ≤ nx) × (2 ≤ ny) → IfErr result (λ e. e ≡ OutOfMemory) }
 {
     match kind {
         DefaultLattice::Rectangular => expand_periodic(alloc, nx, ny, &[1], &[NORTH, EAST]),

@@ -1,6 +1,7 @@
 use Rattle.std.proofs.Common.{ℕ, ◌≡◌, ◌*◌, ◌%◌, ◌∙◌, List, length, map, slice_index, ap, arith, sym, inr}
 use Rattle.std.proofs.lemmas.List.{length-map}
 use Rattle.std.proofs.lemmas.List.FromFn.{length-map-range_with_len}
+use Rattle.std.proofs.lemmas.Option.{none-some}
 use Rattle.std.proofs.lemmas.Result.{IfOk-weaker, IfErr-weaker}
 use Rattle.std.specs.List.{range_with_len}
 use Rattle.std.specs.declared.vec.Vec.{Vec}
@@ -12,6 +13,7 @@ use Rattle.lattice_core.specs.SiteList.{site_numbers, number_lists, merged}
 use Rattle.lattice_core.proofs.Sound.{first_fault-same, lists-merged}
 use Rattle.lattice_cell.specs.Periodic.{neighbour_lists}
 use Rattle.lattice_cell.proofs.Merged.{IfOk-both}
+use Rattle.lattice_cell.proofs.NoFault.{no_first_fault}
 use Rattle.lattice_cell.proofs.expand.expand_periodic.Goals as goal
 use Rattle.lattice_cell.proofs.expand.expand_periodic.Goals.{After-new}
 
@@ -77,3 +79,8 @@ returns-clause-graph c =
     ∙ ap with_lists (sym (lists-merged L _ c.in_ok-lists.ensures.lists (is_fault c ∙ none)))
     ∙ ap with_types c.in_ok-site_types.ensures)
     c.new.ensures.sound c.new.ensures.graph
+
+pub returns-clause-faultless : goal.returns-clause-faultless
+returns-clause-faultless c cell =
+    let none = no_first_fault c.args.nx c.args.ny (length c.args.types.now) c.args.joins.now c.requires.ends cell in
+    IfErr-weaker c.new.result _ _ (λ e found. absurd (none-some e (sym none ∙ is_fault c ∙ found))) c.new.ensures.fault
