@@ -1,5 +1,5 @@
 -- the values of a cell and of an explicit lattice, read together
-use Rattle.std.proofs.Common.{◌≡◌, ◌∙◌, ap, arith, sym, subst, ℕ, ◌*◌, ◌≤◌, List, Option, Some, Result, Ok, length}
+use Rattle.std.proofs.Common.{◌≡◌, ◌∙◌, ap, arith, sym, subst, ℕ, ◌*◌, ◌≤◌, List, Option, Some, Result, Ok, length, map}
 use Rattle.std.specs.Result.{result_ok}
 use Rattle.kmc_base.specs.declared.limits.TheConstants.{MAX_SITES}
 use Rattle.deck_shape.specs.Blocks.{BlockLines}
@@ -8,13 +8,17 @@ use Rattle.deck_values.proofs.NameFaults.{with_fault-map}
 use Rattle.deck_words.specs.Faults.{both, value_map, with_fault}
 use Rattle.deck_words.specs.declared.fault.LineFault.{LineFault}
 use Rattle.deck_words.specs.declared.keyword.Keyword.TheVariants.{NCellSites, NSites}
-use Rattle.lattice_deck.specs.Parts.{cell_joins, cell_repeats, cell_unused, listed_rows, listed_unused, sites_in, type_names, type_words}
+use Rattle.lattice_cell.specs.Faultless.{IsFaultlessCell}
+use Rattle.lattice_deck.specs.Ends.{AreEnds}
+use Rattle.lattice_deck.specs.Joins.{join_from}
+use Rattle.lattice_deck.specs.Parts.{cell_joins, cell_repeats, cell_sizes, cell_unused, listed_rows, listed_unused, sites_in, type_names, type_words}
 use Rattle.lattice_deck.specs.Sizes.{AreRepeats}
 use Rattle.lattice_deck.specs.declared.joins.JoinRow.{JoinRow}
 use Rattle.site_rows.specs.SiteRows.{SiteRow}
 use Rattle.site_rows.specs.declared.type_word.TheConstants.{MAX_SITE_TYPES}
 use Rattle.lattice_deck.proofs.Readings.{both_mapped, both_parts, is_ok, value_same, without_fault}
 use Rattle.lattice_deck.proofs.RowCounts.{rows_count}
+use Rattle.lattice_deck.proofs.SoundJoins.{AreSound, faultless_cell, joins_sound}
 use Rattle.lattice_deck.proofs.SizesSound.{AreFew, IsIn, cell_bounds, names_bounds, sites_bounds, words_count}
 use Rattle.lattice_deck.specs.declared.ranges.TheConstants.{SITE_COUNT}
 
@@ -56,6 +60,19 @@ module _ {N W J : Type 0} (f : N → List (List ℕ)) (g : W → List NameWord) 
         sizes.0,
         rest.1,
       )
+
+  -- its joins have no fault
+  pub cell_sound : (s : ℕ) (r : ℕ × ℕ) (n : N) (w : W) (j : J) → value_map h joins ≡ cell_joins block
+      → with_fault unused (both (both sites repeats) (both names (both words joins))) ≡ Ok ((s, r), (n, (w, j)))
+      → AreEnds (Some s) (h j) → IsFaultlessCell r.0 r.1 s (map join_from (h j))
+  cell_sound s r n w j joins_are is ends =
+      let all = both_parts (both sites repeats) (both names (both words joins)) ((s, r), (n, (w, j)))
+      (without_fault unused (both (both sites repeats) (both names (both words joins))) ((s, r), (n, (w, j))) is) in
+      let sizes = both_parts sites repeats (s, r) all.0 in
+      let lists = both_parts names (both words joins) (n, (w, j)) all.1 in
+      let rest = both_parts words joins (w, j) lists.1 in
+      let sound = is_ok (AreSound (cell_sizes block)) (cell_joins block) (h j) (sym joins_are ∙ ap (value_map h) rest.1) (joins_sound block) in
+      faultless_cell (cell_sizes block) (h j) sound s r (ap result_ok (sym sites_are ∙ sizes.0)) (ap result_ok (sym repeats_are ∙ sizes.1)) ends
 
   pub cell_read : value_map h joins ≡ cell_joins block → unused ≡ cell_unused block
       → with_fault (cell_unused block)

@@ -3,7 +3,7 @@ use Rattle.std.proofs.Common.{◌≡◌, ◌≤◌, ℕ, IfOk, List, Result, Ok,
 use Rattle.std.specs.Result.{result_ok}
 use Rattle.std.proofs.lemmas.List.{length-map}
 use Rattle.std.proofs.lemmas.Result.{IfOk-weaker}
-use Rattle.deck_shape.proofs.BlockValues.{line_value_or-holds, required-holds}
+use Rattle.deck_shape.proofs.BlockValues.{line_value_or-holds}
 use Rattle.deck_shape.specs.BlockValues.{required}
 use Rattle.deck_shape.specs.Blocks.{BlockLines}
 use Rattle.deck_words.proofs.HeldValues.{both-holds, value_map-holds, with_fault-holds}

@@ -4,4 +4,5 @@ mod FewTypes
 mod Readings
 mod RowCounts
 mod SizesSound
+mod SoundJoins
 mod TypeWords

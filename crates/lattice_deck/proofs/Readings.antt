@@ -34,6 +34,11 @@ without_fault None a x is = is
 without_fault (Some f) (Ok y) x is = absurd (cc)
 without_fault (Some f) (Err g) x is = absurd (cc)
 
+-- a value that is kept has no fault beside it
+pub kept_ok : {X : Type 0} (P : X → Type 0) (fault : Option LineFault) (x : X) → (fault ≡ None → P x) → IfOk (with_fault fault (Ok x)) P
+kept_ok P None x p = p refl
+kept_ok P (Some fault) x p = tt
+
 -- what functions make of values that are read together
 pub both_mapped : {A B C D : Type 0} (f : A → B) (g : C → D) (a : Result A LineFault) (b : Result C LineFault)
     → both (value_map f a) (value_map g b) ≡ value_map (λ p. (f p.0, g p.1)) (both a b)

@@ -11,11 +11,12 @@ use Rattle.deck_values.proofs.EarliestFaults.{none_earliest}
 use Rattle.deck_values.proofs.Values.{unless-holds}
 use Rattle.deck_values.specs.Lists.{has_other_length}
 use Rattle.deck_values.specs.Readings.{least_fault, values_of}
-use Rattle.deck_words.specs.Faults.{earliest, with_fault}
+use Rattle.deck_words.specs.Faults.{earliest}
 use Rattle.deck_words.specs.declared.fault.LineFault.{LineFault}
 use Rattle.deck_words.specs.declared.keyword.Keyword.TheVariants.{LatticeStructure}
 use Rattle.deck_words.specs.declared.kind.TheConstants.{ROW_COUNT}
 use Rattle.lattice_deck.specs.Parts.{listed_on, listed_rows}
+use Rattle.lattice_deck.proofs.Readings.{kept_ok}
 use Rattle.site_rows.specs.RowFaults.{rows_fault, site_rows}
 use Rattle.site_rows.specs.SiteRows.{SiteRow, rows_of, site_row}
 
@@ -25,18 +26,13 @@ count_values [] none = refl
 count_values (Ok x ∷ readings) none = ap suc (count_values readings none)
 count_values (Err fault ∷ readings) none = absurd (none-some fault (sym (none_earliest (Some fault) (least_fault readings) none).0))
 
--- a value that is kept has no fault beside it
-kept-holds : {X : Type 0} (P : X → Type 0) (fault : Option LineFault) (x : X) → (fault ≡ None → P x) → IfOk (with_fault fault (Ok x)) P
-kept-holds P None x p = p refl
-kept-holds P (Some fault) x p = tt
-
 same_count : (members count : ℕ) → not (members == count) ≡ false → members ≡ count
 same_count members count same = grind (arith, nat_tests)
 
 -- each line gives a row
 rows_long : (sites : Option ℕ) (lines : List WordLine) → IfOk (site_rows sites lines) (λ rows. length rows ≡ length lines)
 rows_long sites lines =
-    kept-holds (λ rows. length rows ≡ length lines) (earliest (least_fault (map site_row lines)) (rows_fault sites (rows_of lines))) (rows_of lines)
+    kept_ok (λ rows. length rows ≡ length lines) (earliest (least_fault (map site_row lines)) (rows_fault sites (rows_of lines))) (rows_of lines)
     (λ none. count_values (map site_row lines) (none_earliest (least_fault (map site_row lines)) (rows_fault sites (rows_of lines)) none).0
     ∙ length-map lines site_row)
 

@@ -1,9 +1,10 @@
 -- what is true of the numbers that a file states
-use Rattle.std.proofs.Common.{◌≡◌, ◌∙◌, ap, arith, refl, sym, ℕ, ◌*◌, ◌≤◌, ◌<◌, false, List, [], ◌∷◌, Option, None, Some, IfOk}
+use Rattle.std.proofs.Common.{◌≡◌, ◌∙◌, ap, arith, refl, sym, ℕ, ◌*◌, ◌≤◌, ◌<◌, ◌==◌, false, List, [], ◌∷◌, Option, None, Some, IfOk}
 use Rattle.std.proofs.Common.{Result, Ok, Err, length, map, nat_lt}
 use Rattle.std.specs.Result.{result_ok}
 use Rattle.std.proofs.Math.Nat.{mul-le-mul_left, mul-le-mul_right}
-use Rattle.std.proofs.lemmas.Bool.{ltb-false}
+use Rattle.std.proofs.lemmas.Bool.{ltb-false, or_parts}
+use Rattle.std.proofs.lemmas.Bool.Decides.{nat_tests}
 use Rattle.std.proofs.lemmas.List.{length-map}
 use Rattle.deck_shape.specs.BlockValues.{required, value_on}
 use Rattle.kmc_base.specs.declared.limits.TheConstants.{MAX_SITES}
@@ -23,9 +24,9 @@ use Rattle.deck_words.specs.Faults.{at_line, fault_of, with_fault}
 use Rattle.deck_words.specs.declared.fault.LineFault.{LineFault}
 use Rattle.deck_words.specs.declared.keyword.Keyword.{Keyword}
 use Rattle.deck_words.specs.declared.keyword.Keyword.TheVariants.{NCellSites, NSiteTypes, RepeatCell, SiteTypeNames, SiteTypes}
-use Rattle.deck_words.specs.declared.kind.TheConstants.{ARGUMENT_COUNT, TOO_MANY_SITES}
+use Rattle.deck_words.specs.declared.kind.TheConstants.{ARGUMENT_COUNT, SELF_NEIGHBOUR, TOO_MANY_SITES}
 use Rattle.lattice_deck.specs.Parts.{cell_repeats, cell_sizes, names_line, sites_in, type_names, type_words, types_in}
-use Rattle.lattice_deck.specs.Sizes.{AreRepeats, IsSizes, default_on, default_repeats, gives_too_many, repeats_on, two_repeats}
+use Rattle.lattice_deck.specs.Sizes.{AreRepeats, AreWide, IsSizes, default_on, default_repeats, gives_too_many, is_narrow, repeats_on, two_repeats}
 use Rattle.lattice_deck.specs.Sizes.{wide_enough, within_limit}
 use Rattle.lattice_deck.specs.declared.ranges.TheConstants.{REPEAT, SITE_COUNT, TYPE_COUNT}
 use Rattle.lattice_deck.specs.declared.sizes.Sizes.{Sizes}
@@ -84,14 +85,31 @@ cell_bounds block =
     required-holds (AreFew (result_ok (sites_in NCellSites block))) RepeatCell block (repeats_on (result_ok (sites_in NCellSites block)))
     (repeats_bounds (result_ok (sites_in NCellSites block)))
 
-default_words : (line : ℕ) (words : List (List ℕ)) → IfOk (default_repeats line words) (AreFew (Some 1))
+-- those of a default lattice are wide enough
+pub record AreDefault (repeats : ℕ × ℕ) : Type 0 where
+  pub wide : AreWide repeats
+  pub few : AreFew (Some 1) repeats
+
+past_one : (n : ℕ) → 1 ≤ n → (n == 1) ≡ false → 2 ≤ n
+past_one n some other = grind (arith, nat_tests)
+
+wide_bounds : (line : ℕ) (r : ℕ × ℕ) → AreIn r → IfOk (wide_enough line r) AreDefault
+wide_bounds line r are =
+    unless-holds AreDefault (is_narrow r) line SELF_NEIGHBOUR (within_limit (Some 1) line r)
+    (λ wide. unless-holds AreDefault (gives_too_many (Some 1) r) line TOO_MANY_SITES (Ok r)
+    (λ few. let parts = or_parts (r.0 == 1) (r.1 == 1) wide in
+    record {
+      wide = (past_one r.0 are.0.0 parts.0, past_one r.1 are.1.0 parts.1);
+      few = record { columns = are.0.0; rows = are.1.0; few = λ n is. few_for (Some 1) r n few is };
+    }))
+
+default_words : (line : ℕ) (words : List (List ℕ)) → IfOk (default_repeats line words) AreDefault
 default_words line [] = tt
 default_words line (constant ∷ repeats) =
-    with_fault-holds (AreFew (Some 1)) (fault_of (at_line line (any_decimal constant))) _
-    (when_ok (AreFew (Some 1)) AreIn (wide_enough line) (two_repeats line repeats) (two_bounds line repeats)
-    (λ r are. with_fault-holds (AreFew (Some 1)) _ (within_limit (Some 1) line r) (limit_bounds (Some 1) line r are)))
+    with_fault-holds AreDefault (fault_of (at_line line (any_decimal constant))) _
+    (when_ok AreDefault AreIn (wide_enough line) (two_repeats line repeats) (two_bounds line repeats) (wide_bounds line))
 
-pub default_bounds : (item : ItemLines) → IfOk (default_on item) (AreFew (Some 1))
+pub default_bounds : (item : ItemLines) → IfOk (default_on item) AreDefault
 default_bounds item = default_words item.line.number (words_of item)
 
 repeats_are : (sites : Option ℕ) (r : Result (ℕ × ℕ) LineFault) → IfOk r (AreFew sites) → IfOk r AreRepeats

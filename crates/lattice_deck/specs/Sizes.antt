@@ -53,6 +53,10 @@ default_on item = default_repeats item.line.number (words_of item)
 abbrev pub AreRepeats : ℕ × ℕ → Type 0
 AreRepeats repeats = (1 ≤ repeats.0) × (1 ≤ repeats.1)
 
+-- each direction has two cells or more
+abbrev pub AreWide : ℕ × ℕ → Type 0
+AreWide repeats = (2 ≤ repeats.0) × (2 ≤ repeats.1)
+
 -- what is true of the numbers of every file: each is at least 1, and the repeats give at most 65,536 sites
 pub record IsSizes (sizes : Sizes) : Type 0 where
   pub sites : IfSome sizes.sites (λ n. (1 ≤ n) × (n ≤ MAX_SITES))

@@ -1,13 +1,14 @@
-//! The lattices that the values of a file give. Their values leave no fault of a lattice, so all that can be missing is
-//! memory: a lattice that is refused is reported as out of memory.
+//! The lattices that the values of a file give. Values without a fault give lattices without one, so that all that can be
+//! missing is memory.
 
-ghost use Rattle.std.specs.Prelude.{◌≡◌, ◌*◌, ◌≤◌, IfOk, None, Ok, Some, length, map};
+ghost use Rattle.std.specs.Prelude.{◌≡◌, ◌*◌, ◌≤◌, IfErr, IfOk, None, Ok, Some, length, map};
 ghost use Rattle.dec_text.specs.Spans.{bytes_at};
 ghost use Rattle.lattice_cell.specs.Default.{default_lattice};
+ghost use Rattle.lattice_cell.specs.Faultless.{IsFaultlessCell};
 ghost use Rattle.lattice_cell.specs.Periodic.{periodic_lattice};
 ghost use Rattle.lattice_deck.specs.Ends.{AreEnds};
 ghost use Rattle.lattice_deck.specs.Joins.{join_from};
-ghost use Rattle.lattice_deck.specs.Sizes.{AreRepeats};
+ghost use Rattle.lattice_deck.specs.Sizes.{AreRepeats, AreWide};
 ghost use Rattle.site_rows.specs.Listed.{listed_lattice};
 ghost use Rattle.site_rows.specs.ReadRows.{row_at};
 ghost use Rattle.site_rows.specs.RowFaults.{rows_fault};
@@ -23,23 +24,25 @@ use lattice_core::{Graph, GraphFault};
 use site_rows::{ReadRow, TypeIndex};
 use std::alloc::Global;
 
-/// A lattice, or else out of memory: values without a fault give no other fault of a lattice.
+/// A lattice, or else out of memory, which is the only error that it can be.
 fn or_out_of_memory(graph: Result<Graph, GraphFault>) -> Result<Graph, OutOfMemory>
+    requires { IfErr graph (λ e. e ≡ GraphFault.OutOfMemory) }
     ensures { IfOk result (λ g. graph ≡ Ok g) }
 {
     match graph {
         Ok(graph) => Ok(graph),
-        Err(_) => Err(OutOfMemory),
+        Err(GraphFault::OutOfMemory) => Err(OutOfMemory),
+        Err(_) => unreachable!(),
     }
 }
 
-/// A default lattice of so many repeats.
+/// A default lattice of so many repeats, at least two in each direction.
 pub(crate) fn default_graph(
     alloc: Global,
     named: DefaultLattice,
     repeats: (u64, u64),
 ) -> Result<Graph, OutOfMemory>
-    requires some { AreRepeats repeats }
+    requires wide { AreWide repeats }
     requires few { repeats.0 * repeats.1 ≤ MAX_SITES }
     ensures { IfOk result (λ g. g ≡ default_lattice named repeats.0 repeats.1) }
 {
@@ -65,7 +68,7 @@ fn types_of(
 }
 
 /// The lattice of a periodic cell, by its repeats, the names of types, a type word for each of its sites, and the rows
-/// that join them.
+/// that join them: none joins a site to itself, and no site is crowded.
 pub(crate) fn cell_graph(
     alloc: Global,
     bytes: &[u8],
@@ -79,6 +82,7 @@ pub(crate) fn cell_graph(
     requires few { repeats.0 * repeats.1 * length words.now ≤ MAX_SITES }
     requires names { length names.now ≤ MAX_SITE_TYPES }
     requires ends { AreEnds (Some (length words.now)) rows.now }
+    requires faultless { IsFaultlessCell repeats.0 repeats.1 (length words.now) (map join_from rows.now) }
     ensures { IfOk result (λ g. g ≡ periodic_lattice repeats.0 repeats.1
         (map (λ word. type_of (map (λ name. name.items) names.now) (bytes_at bytes.now word.span)) words.now) (map join_from rows.now)) }
 {
@@ -89,7 +93,7 @@ pub(crate) fn cell_graph(
     or_out_of_memory(graph)
 }
 
-/// The lattice of an explicit list of sites.
+/// The lattice of an explicit list of sites, which has a row for each.
 pub(crate) fn listed_graph(
     alloc: Global,
     bytes: &[u8],

@@ -5,9 +5,11 @@ ghost use Rattle.deck_shape.specs.Blocks.{block_at, item_at};
 ghost use Rattle.deck_shape.specs.Names.{name_at, on_line};
 ghost use Rattle.deck_words.specs.Faults.{value_map};
 ghost use Rattle.kmc_base.specs.declared.limits.TheConstants.{MAX_SITES};
+ghost use Rattle.lattice_cell.specs.Faultless.{IsFaultlessCell};
 ghost use Rattle.lattice_deck.specs.Ends.{AreEnds};
+ghost use Rattle.lattice_deck.specs.Joins.{join_from};
 ghost use Rattle.lattice_deck.specs.Parts.{cell_part, cell_unused, cell_values, default_part, default_values, listed_on, listed_part, listed_rows, listed_unused, part_for, sites_in, values_at};
-ghost use Rattle.lattice_deck.specs.Sizes.{AreRepeats, default_on};
+ghost use Rattle.lattice_deck.specs.Sizes.{AreRepeats, AreWide, default_on};
 ghost use Rattle.site_rows.specs.ReadRows.{row_at};
 ghost use Rattle.site_rows.specs.RowFaults.{rows_fault};
 ghost use Rattle.site_rows.specs.declared.type_word.TheConstants.{MAX_SITE_TYPES};
@@ -34,7 +36,7 @@ fn default_values(
     named: DefaultLattice,
     repeats: (u64, u64),
 ) -> Result<LatticePart, OutOfMemory>
-    requires some { AreRepeats repeats }
+    requires wide { AreWide repeats }
     requires few { repeats.0 * repeats.1 ≤ MAX_SITES }
     ensures { IfOk result (λ part. (text : List ℕ) → values_at text part ≡ default_values named repeats) }
 {
@@ -108,6 +110,7 @@ fn cell_values(alloc: Global, bytes: &[u8], cell: CellRead) -> Result<LatticePar
     requires few { cell.0.1.0 * cell.0.1.1 * length cell.1.1.0.items ≤ MAX_SITES }
     requires names { length cell.1.0.items ≤ MAX_SITE_TYPES }
     requires ends { AreEnds (Some (length cell.1.1.0.items)) cell.1.1.1.items }
+    requires faultless { IsFaultlessCell cell.0.1.0 cell.0.1.1 (length cell.1.1.0.items) (map join_from cell.1.1.1.items) }
     ensures { IfOk result (λ part. values_at bytes.now part
         ≡ cell_values (cell.0, (map (λ name. name.items) cell.1.0.items, (map (name_at bytes.now) cell.1.1.0.items, cell.1.1.1.items)))) }
 {

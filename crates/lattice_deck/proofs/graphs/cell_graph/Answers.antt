@@ -1,9 +1,25 @@
-use Rattle.std.proofs.Common.{◌≡◌, ◌∙◌, IfOk, ap, map, subst}
+use Rattle.std.proofs.Common.{◌≡◌, ◌∙◌, IfOk, ap, length, map, subst, sym}
+use Rattle.std.proofs.lemmas.List.{length-map}
 use Rattle.dec_text.specs.Spans.{bytes_at}
+use Rattle.deck_shape.specs.declared.name.Name.{Name}
+use Rattle.lattice_cell.specs.Faultless.{IsFaultlessCell}
 use Rattle.lattice_cell.specs.Periodic.{periodic_lattice}
 use Rattle.site_rows.specs.TypeWords.{type_of}
+use Rattle.lattice_deck.specs.Joins.{join_from}
 use Rattle.lattice_deck.proofs.Readings.{handed_on}
 use Rattle.lattice_deck.proofs.graphs.cell_graph.Goals as goal
+
+pub or_out_of_memory-requires : goal.or_out_of_memory-requires
+or_out_of_memory-requires c =
+    let nx = c.args.repeats.0 in
+    let ny = c.args.repeats.1 in
+    let types_are = c.deref.ensures.value ∙ c.in_ok-types.ensures in
+    let count : length c.deref.result.now ≡ length c.args.words.now =
+    ap length types_are ∙ length-map c.args.words.now (λ (word : Name). type_of c.in_ok-index.index (bytes_at c.args.bytes.now word.span)) in
+    let joins_are : c.deref-2.result.now ≡ map join_from c.args.rows.now = c.deref-2.ensures.value ∙ c.in_ok-joins.ensures.value in
+    c.expand_periodic-graph.ensures.faultless
+    (subst (λ n. IsFaultlessCell nx ny n c.deref-2.result.now) (sym count)
+    (subst (IsFaultlessCell nx ny (length c.args.words.now)) (sym joins_are) c.requires.faultless))
 
 pub returns : goal.returns
 returns c =

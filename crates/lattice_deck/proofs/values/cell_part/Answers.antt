@@ -11,14 +11,15 @@ use Rattle.deck_words.specs.Faults.{value_map}
 use Rattle.deck_words.specs.declared.fault.LineFault.{LineFault}
 use Rattle.deck_words.specs.declared.keyword.Keyword.TheVariants.{NeighboringStructure, RepeatCell}
 use Rattle.kmc_base.specs.declared.limits.TheConstants.{MAX_SITES}
+use Rattle.lattice_cell.specs.Faultless.{IsFaultlessCell}
 use Rattle.lattice_deck.specs.Ends.{AreEnds}
-use Rattle.lattice_deck.specs.Joins.{joins_on}
+use Rattle.lattice_deck.specs.Joins.{join_from, joins_on}
 use Rattle.lattice_deck.specs.Parts.{cell_joins, cell_sizes, cell_values, type_words}
 use Rattle.lattice_deck.specs.Sizes.{repeats_on}
 use Rattle.lattice_deck.specs.declared.joins.JoinRow.{JoinRow}
 use Rattle.lattice_deck.specs.declared.sizes.Sizes.{Sizes}
 use Rattle.site_rows.specs.declared.type_word.TheConstants.{MAX_SITE_TYPES}
-use Rattle.lattice_deck.proofs.CellFacts.{cell_chain, cell_facts, cell_read}
+use Rattle.lattice_deck.proofs.CellFacts.{cell_chain, cell_facts, cell_read, cell_sound}
 use Rattle.lattice_deck.proofs.Readings.{is_ok}
 use Rattle.lattice_deck.proofs.SizesSound.{sizes_sound}
 use Rattle.lattice_deck.proofs.values.cell_part.Goals as goal
@@ -59,12 +60,26 @@ cell_values-requires c =
     c.in_ok-joins.ensures.ends in
     let known : c.ok-2.result ≡ Some (length c.in-Ok.cell.1.1.0.items) =
     c.ok-2.ensures.value ∙ ap result_ok facts.1 ∙ ap (λ n. Some n) (sym (sym many ∙ are.count)) in
+    let sized : Sizes → Result (List JoinRow) LineFault = λ z. required NeighboringStructure block (joins_on z) in
+    let repeated : c.ok-3.result ≡ (cell_sizes block).repeats = c.ok-3.ensures.value ∙ ap result_ok repeats_are in
+    let sited : c.ok-2.result ≡ (cell_sizes block).sites = c.ok-2.ensures.value ∙ ap result_ok sites_are in
+    let joins_are : value_map h c.in_ok-joins.joins ≡ cell_joins block =
+    c.in_ok-joins.ensures.value
+    ∙ ap (λ s. sized (record { sites = s; repeats = c.ok-3.result })) sited
+    ∙ ap (λ r. sized (record { sites = (cell_sizes block).sites; repeats = r })) repeated in
+    let all_ends = subst (λ n. AreEnds n c.in-Ok.cell.1.1.1.items) known ends in
+    let count : c.in-Ok.cell.0.0 ≡ length c.in-Ok.cell.1.1.0.items = sym (sym many ∙ are.count) in
+    let sound = cell_sound f g h block c.cell_unused-unused.result c.sites_in-sites.result c.cell_repeats-repeats.result c.in_ok-names.names
+    c.in_ok-words.words c.in_ok-joins.joins sites_are repeats_are c.in_ok-names.ensures words_are c.in-Ok.cell.0.0 c.in-Ok.cell.0.1
+    c.in-Ok.cell.1.0 c.in-Ok.cell.1.1.0 c.in-Ok.cell.1.1.1 joins_are (chain ∙ c.in-Ok.is)
+    (subst (λ n. AreEnds (Some n) c.in-Ok.cell.1.1.1.items) (sym count) all_ends) in
     record {
       some = are.some;
       some_sites = subst (λ n. 1 ≤ n) many are.some_sites;
       few = subst (λ n. c.in-Ok.cell.0.1.0 * c.in-Ok.cell.0.1.1 * n ≤ MAX_SITES) many are.few;
       names = subst (λ n. n ≤ MAX_SITE_TYPES) named are.few_names;
-      ends = subst (λ n. AreEnds n c.in-Ok.cell.1.1.1.items) known ends;
+      ends = all_ends;
+      faultless = subst (λ n. IsFaultlessCell c.in-Ok.cell.0.1.0 c.in-Ok.cell.0.1.1 n (map join_from c.in-Ok.cell.1.1.1.items)) count sound;
     }
 
 pub returns-in_ok-cell_values-in-Ok : goal.returns-in_ok-cell_values-in-Ok
