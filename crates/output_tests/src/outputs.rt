@@ -44,7 +44,12 @@ const HEADS: &[(bool, OutId, &str, &str)] = &[
         "there\n",
         "there\nspecnum 1\ncolumns sample event time temperature energy CO* O2** CO O2\n",
     ),
-    (true, OutId::History, "there", "therehistory 1\nsites 1\nsurface\ngas\n"),
+    (
+        true,
+        OutId::History,
+        "there",
+        "therehistory 1\nsites 1\nsurface\ngas\n",
+    ),
     (true, OutId::Procstat, "there\n", "there\nprocstat 1\n"),
     (
         true,

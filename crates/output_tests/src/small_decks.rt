@@ -35,8 +35,14 @@ fn book(alloc: Global) -> Result<SpeciesBook, AllocError>
     ensures dentates { IfOk result (λ book. book.dentates ≡ 1 ∷ 2 ∷ []) }
     ensures gas { IfOk result (λ book. length book.gas ≡ 2) }
 {
-    let gas = vec![in alloc; Vec::from_slice(alloc, b"CO")?, Vec::from_slice(alloc, b"O2")?]?;
-    let surface = vec![in alloc; Vec::from_slice(alloc, b"CO*")?, Vec::from_slice(alloc, b"O2**")?]?;
+    let gas = vec![in alloc;
+        Vec::from_slice(alloc, b"CO")?,
+        Vec::from_slice(alloc, b"O2")?,
+    ]?;
+    let surface = vec![in alloc;
+        Vec::from_slice(alloc, b"CO*")?,
+        Vec::from_slice(alloc, b"O2**")?,
+    ]?;
     Ok(SpeciesBook::new(gas, surface, vec![in alloc; 1, 2]?))
 }
 

@@ -16,15 +16,14 @@ const OXIDATION: DeckTexts = DeckTexts {
     mechanism: "mechanism\nreversible_step CO_adsorption\ngas_reacs_prods CO -1\nsites 1\ninitial\n1 * 1\nfinal\n1 CO* 1\npre_expon 1.0e5\npe_ratio 1.0e-8\nactiv_eng 0.0\nend_reversible_step\nreversible_step O2_adsorption\ngas_reacs_prods O2 -1\nsites 2\nneighboring 1-2\ninitial\n1 * 1\n2 * 1\nfinal\n1 O* 1\n2 O* 1\npre_expon 1.0e5\npe_ratio 1.0e-8\nactiv_eng 0.0\nend_reversible_step\nstep CO_oxidation\ngas_reacs_prods CO2 1\nsites 2\nneighboring 1-2\ninitial\n1 CO* 1\n2 O* 1\nfinal\n1 * 1\n2 * 1\npre_expon 1.0e13\nactiv_eng 0.9\nprox_factor 0.5\nend_step\nend_mechanism\n",
 };
 
-/// What the fourth append ends, and the fifth would have added to.
+/// The heads of the outputs, and sample 0 of the history.
 const HISTORY: &str =
     "history 1\nsites 400\nsurface CO* O*\ngas CO O2 CO2\nconfiguration 0 event 0 time 0.000000000000000000 energy 0.000000000\ngas_counts 0 0 0\n";
 
 const PROCSTAT: &str =
     "procstat 1\nprocess 1 CO_adsorption/fwd\nprocess 2 CO_adsorption/rev\nprocess 3 O2_adsorption/fwd\nprocess 4 O2_adsorption/rev\nprocess 5 CO_oxidation\n";
 
-const SPECNUM: &str =
-    "specnum 1\ncolumns sample event time temperature energy CO* O* CO O2 CO2\n";
+const SPECNUM: &str = "specnum 1\ncolumns sample event time temperature energy CO* O* CO O2 CO2\n";
 
 /// The outputs after a run whose fifth append fails, and what the whole run adds to each.
 const OUTPUTS: &[(OutId, &str, &str)] = &[

@@ -9,6 +9,8 @@ mod decks;
 #[cfg(test)]
 mod errors_as_text;
 #[cfg(test)]
+mod failing_folders;
+#[cfg(test)]
 mod folders_in_memory;
 #[cfg(test)]
 mod gas_and_steps;
