@@ -111,7 +111,7 @@ fn process_names(alloc: Global) -> Result<Vec<Sequence<u8>>, AllocError>
 {
     let forward = Sequence::new(Vec::from_slice(alloc, b"CO_adsorption/fwd")?);
     let reverse = Sequence::new(Vec::from_slice(alloc, b"CO_adsorption/rev")?);
-    vec![in alloc; forward, reverse]
+    Ok(vec![in alloc; forward, reverse]?)
 }
 
 /// A deck of two gas species, two surface species, five sites and two processes.
