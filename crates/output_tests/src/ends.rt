@@ -2,7 +2,7 @@
 ghost use Rattle.std.specs.Prelude.{◌≡◌, ◌∷◌, []};
 
 use crate::samples::{EXTREME, FIRST, LAST_TIME, LATE, LATER, Sample};
-use crate::small_decks::{DENTATES, empty_deck, small_config, small_deck};
+use crate::small_decks::{empty_deck, small_config, small_deck};
 use kmc_report::Stop;
 use lattice_core::Config;
 use std::alloc::Global;
@@ -68,20 +68,12 @@ fn done_lines(rt: HostRuntime) -> Result<(), Fail> {
 }
 
 /// A text, and the summary of a run of the small deck after it.
-fn with_summary(
-    alloc: Global,
-    before: &str,
-    sample: &Sample,
-    stop: Stop,
-    dentates: &[u8],
-) -> Result<Vec<u8>, Fail>
-    requires { dentates.now ≡ 1 ∷ 2 ∷ [] }
-{
+fn with_summary(alloc: Global, before: &str, sample: &Sample, stop: Stop) -> Result<Vec<u8>, Fail> {
     if sample.time > LAST_TIME {
         return Err("too late")?;
     }
-    let deck = small_deck(alloc, dentates)?;
-    let config = small_config(alloc, dentates)?;
+    let deck = small_deck(alloc)?;
+    let config = small_config(alloc, &deck.book)?;
     let view = sample.view(&config);
     let mut text = Vec::from_slice(alloc, before.as_bytes())?;
     summary_text(&deck, &view, sample.time, stop, &mut text)?;
@@ -119,25 +111,23 @@ const SUMMARIES: &[(&str, Sample, Stop, &str)] = &[
 #[test]
 fn summaries(rt: HostRuntime) -> Result<(), Fail> {
     for (before, sample, stop, after) in SUMMARIES {
-        let text = with_summary(rt.alloc(), *before, sample, *stop, &DENTATES)?;
+        let text = with_summary(rt.alloc(), *before, sample, *stop)?;
         assert_eq!(rt; text.as_slice(), after.as_bytes());
     }
     Ok(())
 }
 
 /// The numbers of adsorbates of the small deck.
-fn small_counts(alloc: Global, dentates: &[u8]) -> Result<Vec<u64>, Fail>
-    requires { dentates.now ≡ 1 ∷ 2 ∷ [] }
-{
-    let deck = small_deck(alloc, dentates)?;
-    let config = small_config(alloc, dentates)?;
+fn small_counts(alloc: Global) -> Result<Vec<u64>, Fail> {
+    let deck = small_deck(alloc)?;
+    let config = small_config(alloc, &deck.book)?;
     Ok(adsorbates(alloc, &deck, &config)?)
 }
 
 // An adsorbate of two dentates counts once.
 #[test]
 fn numbers_of_adsorbates(rt: HostRuntime) -> Result<(), Fail> {
-    let counts = small_counts(rt.alloc(), &DENTATES)?;
+    let counts = small_counts(rt.alloc())?;
     assert_eq!(rt; counts.as_slice(), [2, 1].as_slice());
     let deck = empty_deck(rt.alloc())?;
     let config = Config::vacant(rt.alloc(), 1)?;

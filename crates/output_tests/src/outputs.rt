@@ -5,7 +5,7 @@ ghost use Rattle.lattice_core.specs.Config.{IsWellFormed};
 ghost use Rattle.lattice_core.specs.Lattice.{site_count};
 
 use crate::samples::{EXTREME, FIRST, LAST_TIME, LATE, LATER, Sample};
-use crate::small_decks::{DENTATES, empty_deck, small_config, small_deck};
+use crate::small_decks::{empty_deck, small_config, small_deck};
 use deck::Deck;
 use kmc_base::{OutId, OutOfMemory};
 use lattice_core::Config;
@@ -65,7 +65,7 @@ fn heads(rt: HostRuntime) -> Result<(), Fail> {
         let deck = if *is_empty {
             empty_deck(rt.alloc())?
         } else {
-            small_deck(rt.alloc(), &DENTATES)?
+            small_deck(rt.alloc())?
         };
         let mut text = Vec::from_slice(rt.alloc(), before.as_bytes())?;
         push_head(&deck, *out, &mut text)?;
@@ -96,20 +96,12 @@ fn push_piece(
 }
 
 /// A text, and a sample of the small deck after it.
-fn with_piece(
-    alloc: Global,
-    out: OutId,
-    before: &str,
-    sample: &Sample,
-    dentates: &[u8],
-) -> Result<Vec<u8>, Fail>
-    requires { dentates.now ≡ 1 ∷ 2 ∷ [] }
-{
+fn with_piece(alloc: Global, out: OutId, before: &str, sample: &Sample) -> Result<Vec<u8>, Fail> {
     if sample.time > LAST_TIME {
         return Err("too late")?;
     }
-    let deck = small_deck(alloc, dentates)?;
-    let config = small_config(alloc, dentates)?;
+    let deck = small_deck(alloc)?;
+    let config = small_config(alloc, &deck.book)?;
     let view = sample.view(&config);
     let mut text = Vec::from_slice(alloc, before.as_bytes())?;
     push_piece(&deck, &view, out, sample.number, sample.time, &mut text)?;
@@ -195,7 +187,7 @@ const PIECES: &[(OutId, &str, Sample, &str)] = &[
 #[test]
 fn pieces(rt: HostRuntime) -> Result<(), Fail> {
     for (out, before, sample, after) in PIECES {
-        let text = with_piece(rt.alloc(), *out, *before, sample, &DENTATES)?;
+        let text = with_piece(rt.alloc(), *out, *before, sample)?;
         assert_eq!(rt; text.as_slice(), after.as_bytes());
     }
     Ok(())

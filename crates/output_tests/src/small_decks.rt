@@ -1,6 +1,6 @@
 //! The decks of the tests, and what is on the lattice of one of them.
 ghost use Rattle.std.specs.Prelude.{◌≡◌, ◌∷◌, [], All, IfOk, length, slice_index};
-ghost use Rattle.deck.specs.Soundness.{HasSoundGas, IsSound};
+ghost use Rattle.deck.specs.Soundness.{HasSoundGas, IsSound, dentates_in};
 ghost use Rattle.lattice_core.specs.Config.{IsWellFormed};
 ghost use Rattle.lattice_core.specs.Lattice.{site_count};
 ghost use Rattle.pattern_types.specs.Parts.{vertex_count};
@@ -18,7 +18,7 @@ use std::test::Fail;
 use test_parts::{holds, whole_side};
 
 /// The dentates of the two surface species, of which the second takes two sites.
-pub(crate) const DENTATES: [u8; 2] = [1, 2];
+const DENTATES: [u8; 2] = [1, 2];
 
 /// Nothing ends a run, and nothing is sampled.
 const PLAN: Plan = Plan {
@@ -90,6 +90,7 @@ fn chemistry(alloc: Global, dentates: &[u8]) -> Result<Chemistry, Fail>
     ensures sound { IfOk result (IsSoundChemistry (λ s. slice_index dentates.now s)) }
     ensures gas { IfOk result (λ chem. All (HasSoundGas 2) chem.processes) }
     ensures two { IfOk result (λ chem. length chem.processes ≡ 2) }
+    ensures clusters { IfOk result (λ chem. chem.clusters ≡ []) }
     ensures sites { IfOk result (λ chem. site_count chem.graph ≡ 5) }
 {
     let graph = row(alloc)?;
@@ -115,15 +116,14 @@ fn process_names(alloc: Global) -> Result<Vec<Sequence<u8>>, AllocError>
 }
 
 /// A deck of two gas species, two surface species, five sites and two processes.
-pub(crate) fn small_deck(alloc: Global, dentates: &[u8]) -> Result<Deck, Fail>
-    requires { dentates.now ≡ 1 ∷ 2 ∷ [] }
+pub(crate) fn small_deck(alloc: Global) -> Result<Deck, Fail>
     ensures sound { IfOk result IsSound }
-    ensures dentates { IfOk result (λ deck. deck.book.dentates ≡ dentates.now) }
+    ensures dentates { IfOk result (λ deck. deck.book.dentates ≡ 1 ∷ 2 ∷ []) }
     ensures gas { IfOk result (λ deck. length deck.book.gas ≡ 2) }
     ensures sites { IfOk result (λ deck. site_count deck.chem.graph ≡ 5) }
 {
     let book = book(alloc)?;
-    let chem = chemistry(alloc, dentates)?;
+    let chem = chemistry(alloc, &DENTATES)?;
     let names = process_names(alloc)?;
     Ok(Deck {
         chem,
@@ -136,10 +136,10 @@ pub(crate) fn small_deck(alloc: Global, dentates: &[u8]) -> Result<Deck, Fail>
 
 /// Five sites: the first is vacant, an adsorbate of species 1 has its dentate 1 on the third and its dentate 2 on the
 /// second, and each of the last two has an adsorbate of species 0.
-pub(crate) fn small_config(alloc: Global, dentates: &[u8]) -> Result<Config, Fail>
-    requires { dentates.now ≡ 1 ∷ 2 ∷ [] }
+pub(crate) fn small_config(alloc: Global, book: &SpeciesBook) -> Result<Config, Fail>
+    requires { book.now.dentates ≡ 1 ∷ 2 ∷ [] }
     ensures long { IfOk result (λ config. length config ≡ 5) }
-    ensures well_formed { IfOk result (IsWellFormed (λ s. slice_index dentates.now s)) }
+    ensures well_formed { IfOk result (IsWellFormed (dentates_in book.now)) }
 {
     let mut config = Config::vacant(alloc, 5)?;
     config.set(SpeciesId(1), &[SiteId(2), SiteId(1)]);
