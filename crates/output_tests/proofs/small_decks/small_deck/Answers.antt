@@ -1,4 +1,4 @@
-use Rattle.std.proofs.Common.{◌≡◌, ◌∷◌, [], ◌≤◌, ◌<◌, ◌×◌, ℕ, List, ap, arith, length, refl, rules, slice_index, subst, sym, zero, suc, ◌∙◌, lit≤}
+use Rattle.std.proofs.Common.{◌≡◌, ◌∷◌, [], ◌≤◌, ◌<◌, ℕ, List, ap, arith, length, refl, rules, slice_index, subst, sym, zero, suc, ◌∙◌, lit≤}
 use Rattle.std.specs.List.{All}
 use Rattle.deck.specs.Soundness.{HasSoundGas, IsOfBook, IsSound, dentates_in}
 use Rattle.kmc_base.specs.declared.limits.TheConstants.{MAX_DENTATES}
