@@ -1,5 +1,4 @@
 //! The texts of the end of a run, and the numbers of adsorbates.
-ghost use Rattle.std.specs.Prelude.{◌≡◌, ◌∷◌, []};
 
 use crate::samples::{EXTREME, FIRST, LAST_TIME, LATE, LATER, Sample};
 use crate::small_decks::{empty_deck, small_config, small_deck};
@@ -7,7 +6,7 @@ use kmc_report::Stop;
 use lattice_core::Config;
 use std::alloc::Global;
 use std::test::Fail;
-use zacros_output::{adsorbates, done_line, summary_text};
+use zacros_output::{View, adsorbates, done_line, summary_text};
 
 /// A text, and the line of the end of a run after it.
 fn with_done(
@@ -74,7 +73,13 @@ fn with_summary(alloc: Global, before: &str, sample: &Sample, stop: Stop) -> Res
     }
     let deck = small_deck(alloc)?;
     let config = small_config(alloc, &deck.book)?;
-    let view = sample.view(&config);
+    let view = View {
+        event: sample.event,
+        energy: sample.energy,
+        config: &config,
+        gas: &sample.gas,
+        counts: &sample.counts,
+    };
     let mut text = Vec::from_slice(alloc, before.as_bytes())?;
     summary_text(&deck, &view, sample.time, stop, &mut text)?;
     Ok(text)

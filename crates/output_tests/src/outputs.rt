@@ -1,5 +1,5 @@
 //! The heads and the samples of the three outputs.
-ghost use Rattle.std.specs.Prelude.{◌≡◌, ◌<◌, ◌^◌, ◌∷◌, [], length};
+ghost use Rattle.std.specs.Prelude.{◌≡◌, ◌<◌, ◌^◌, length};
 ghost use Rattle.deck.specs.Soundness.{IsSound, dentates_in};
 ghost use Rattle.lattice_core.specs.Config.{IsWellFormed};
 ghost use Rattle.lattice_core.specs.Lattice.{site_count};
@@ -102,7 +102,13 @@ fn with_piece(alloc: Global, out: OutId, before: &str, sample: &Sample) -> Resul
     }
     let deck = small_deck(alloc)?;
     let config = small_config(alloc, &deck.book)?;
-    let view = sample.view(&config);
+    let view = View {
+        event: sample.event,
+        energy: sample.energy,
+        config: &config,
+        gas: &sample.gas,
+        counts: &sample.counts,
+    };
     let mut text = Vec::from_slice(alloc, before.as_bytes())?;
     push_piece(&deck, &view, out, sample.number, sample.time, &mut text)?;
     Ok(text)

@@ -1,8 +1,4 @@
 //! What the samples of the tests show.
-ghost use Rattle.std.specs.Prelude.{◌≡◌, length};
-
-use lattice_core::Config;
-use zacros_output::View;
 
 /// What a sample shows beside what is on the sites: its number, the event, the time in attoseconds, the energy in neV,
 /// the gas molecules, and how often each process has fired.
@@ -14,22 +10,6 @@ pub(crate) struct Sample {
     pub(crate) energy: i128,
     pub(crate) gas: [i64; 2],
     pub(crate) counts: [u64; 2],
-}
-
-impl Sample {
-    /// What it shows, with what is on the sites.
-    pub(crate) fn view<'a>(&'a self, config: &'a Config) -> View<'a>
-        ensures config { result.config.now ≡ config.now }
-        ensures gas { length result.gas.now ≡ 2 }
-    {
-        View {
-            event: self.event,
-            energy: self.energy,
-            config,
-            gas: &self.gas,
-            counts: &self.counts,
-        }
-    }
 }
 
 /// The greatest time that can be printed.

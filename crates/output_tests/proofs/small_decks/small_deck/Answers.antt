@@ -1,6 +1,6 @@
-use Rattle.std.proofs.Common.{◌≡◌, ◌∷◌, [], ◌≤◌, ◌<◌, ℕ, List, ap, arith, length, refl, rules, slice_index, subst, sym, zero, suc, ◌∙◌, lit≤}
+use Rattle.std.proofs.Common.{◌∷◌, [], ◌≤◌, ℕ, List, arith, rules, slice_index, subst, sym, zero, suc, ◌∙◌, lit≤}
 use Rattle.std.specs.List.{All}
-use Rattle.deck.specs.Soundness.{HasSoundGas, IsOfBook, IsSound, dentates_in}
+use Rattle.deck.specs.Soundness.{HasSoundGas, IsOfBook}
 use Rattle.kmc_base.specs.declared.limits.TheConstants.{MAX_DENTATES}
 use Rattle.rate_rules.specs.Soundness.{IsSoundChemistry}
 use Rattle.rate_rules.specs.declared.chemistry.Cluster.{Cluster}
