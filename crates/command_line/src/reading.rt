@@ -1,0 +1,105 @@
+//! Reading the words of a command line.
+ghost use Rattle.std.specs.Prelude.{◌≡◌, ◌≢◌, ◌≤◌, ℕ, List, None, Some, IfOk, IfSome, codes, map, option_and_then, string_bytes};
+ghost use Rattle.clap.specs.Words.{app_of, found_of, one_text, rows_of};
+ghost use Rattle.clap.specs.Values.{IsUnsignedIn};
+ghost use Rattle.command_line.specs.Grammar.{command_line, kmc_line, mode_of, number_rule, option_number};
+ghost use Rattle.command_line.specs.declared.line.TheConstants.{MAX_SPREAD, MAX_WORKERS};
+ghost use Rattle.clap.specs.Walk.{first_of, rule_of};
+
+use crate::line::{CommandLine, MAX_SPREAD, MAX_WORKERS, Mode};
+use clap::builder::ValueParser;
+use clap::error::ErrorKind;
+use clap::{Arg, ArgAction, ArgMatches, Command};
+use kmc_base::OutOfMemory;
+use std::alloc::{AllocError, Global};
+
+/// The option `--name` with a whole number from 1 to `most`, which is `default` where the option is not used.
+fn number_option<'a>(alloc: Global, name: &'a str, most: u32, default: &'a str) -> Arg<'a>
+    ensures { rule_of result ≡ number_rule name.entry.now most default.entry.now }
+{
+    Arg::new(alloc, name)
+        .long(name)
+        .action(ArgAction::Set)
+        .value_parser(ValueParser::unsigned(1, u64::from(most)))
+        .default_value(default)
+}
+
+/// The one command of kmc.
+fn kmc_command<'a>(alloc: Global) -> Result<Command<'a>, AllocError>
+    ensures { IfOk result (λ command. app_of command ≡ kmc_line) }
+{
+    let mode = Arg::new(alloc, "mode").required(true);
+    let workers = number_option(alloc, "workers", MAX_WORKERS, "1");
+    let spread = number_option(alloc, "spread", MAX_SPREAD, "64");
+    Command::new(alloc, "kmc")
+        .no_binary_name(true)
+        .disable_help_flag(true)
+        .arg(mode)?
+        .arg(workers)?
+        .arg(spread)
+}
+
+/// What a first word says to do.
+fn mode_of(word: &str) -> Option<Mode>
+    ensures { result ≡ mode_of word.now }
+{
+    match word {
+        "run" => Some(Mode::Run),
+        "check" => Some(Mode::Check),
+        _ => None,
+    }
+}
+
+/// The number of an option that has one.
+fn option_number(matches: &ArgMatches, name: &str) -> u32
+    requires number { (t : List ℕ) × (one_text (found_of matches.now) name.now ≡ Some t) × IsUnsignedIn 1 4294967295 t }
+    ensures { result ≡ option_number name.now (rows_of (found_of matches.now)) }
+{
+    match matches.get_one::<u32>(name) {
+        Some(number) => number,
+        None => unreachable!(),
+    }
+}
+
+/// Reads the words after the program's name. The answer is `None` if they are outside the grammar.
+///
+/// # Errors
+///
+/// If it is out of memory.
+pub fn read_words(alloc: Global, words: &[String]) -> Result<Option<CommandLine>, OutOfMemory>
+    ensures value { IfOk result (λ line. line ≡ command_line (map string_bytes words.now)) }
+    ensures workers { IfOk result (λ line. IfSome line (λ l. (1 ≤ l.workers) × (l.workers ≤ MAX_WORKERS))) }
+    ensures spread { IfOk result (λ line. IfSome line (λ l. (1 ≤ l.spread) × (l.spread ≤ MAX_SPREAD))) }
+{
+    let command = kmc_command(alloc)?;
+    let matches = match command.try_get_matches_from(words) {
+        Ok(matches) => matches,
+        Err(error) => return refusal(error.kind()),
+    };
+    let Some(mode) = mode_in(&matches) else {
+        return Ok(None);
+    };
+    let workers = option_number(&matches, "workers");
+    let spread = option_number(&matches, "spread");
+    Ok(Some(CommandLine { mode, workers, spread }))
+}
+
+/// What the words of the matches say to do.
+fn mode_in(matches: &ArgMatches) -> Option<Mode>
+    ensures { result ≡ option_and_then mode_of (first_of (codes "mode") (rows_of (found_of matches.now))) }
+{
+    match matches.get_str("mode") {
+        Some(word) => mode_of(word),
+        None => None,
+    }
+}
+
+/// The answer where clap refuses the words, or is out of memory.
+fn refusal(kind: ErrorKind) -> Result<Option<CommandLine>, OutOfMemory>
+    ensures { IfOk result (λ line. (line ≡ None) × (kind ≢ ErrorKind.OutOfMemory)) }
+{
+    match kind {
+        ErrorKind::OutOfMemory => Err(OutOfMemory),
+        _ => Ok(None),
+    }
+}
