@@ -1,0 +1,2 @@
+pub mod OptionReads
+pub mod Numbers

@@ -1,5 +1,5 @@
 //! Reading the words of a command line.
-ghost use Rattle.std.specs.Prelude.{◌≡◌, ◌≢◌, ◌≤◌, ℕ, List, None, Some, IfOk, IfSome, codes, map, option_and_then, string_bytes};
+ghost use Rattle.std.specs.Prelude.{◌≡◌, ◌≢◌, ◌≤◌, ℕ, false, List, None, Some, IfOk, IfSome, codes, map, option_and_then, string_bytes};
 ghost use Rattle.clap.specs.Words.{app_of, found_of, one_text, rows_of};
 ghost use Rattle.clap.specs.Values.{IsUnsignedIn};
 ghost use Rattle.command_line.specs.Grammar.{command_line, kmc_line, mode_of, number_rule, option_number};
@@ -15,7 +15,8 @@ use std::alloc::{AllocError, Global};
 
 /// The option `--name` with a whole number from 1 to `most`, which is `default` where the option is not used.
 fn number_option<'a>(alloc: Global, name: &'a str, most: u32, default: &'a str) -> Arg<'a>
-    ensures { rule_of result ≡ number_rule name.entry.now most default.entry.now }
+    ensures rule { rule_of result ≡ number_rule name.entry.now most default.entry.now }
+    ensures local { result.global ≡ false }
 {
     Arg::new(alloc, name)
         .long(name)
