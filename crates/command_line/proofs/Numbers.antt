@@ -1,6 +1,6 @@
 -- The numbers that the matches of kmc's command have.
-use Rattle.std.proofs.Common.{◌≡◌, ◌∙◌, ◌<◌, ◌≤◌, ◌&&◌, ℕ, Bool, true, false, zero, suc, refl, sym, ap, subst, arith, List, [], ◌∷◌, length, map, codes, Option, Some, None, is_some, not, inl, inr}
-use Rattle.std.specs.List.{All, list_all, slice_index_or}
+use Rattle.std.proofs.Common.{◌≡◌, ◌∙◌, ◌<◌, ◌≤◌, ℕ, true, false, zero, suc, refl, sym, ap, subst, arith, List, [], ◌∷◌, length, map, codes, Option, Some, None, is_some, not, inl, inr}
+use Rattle.std.specs.List.{list_all, slice_index_or}
 use Rattle.std.specs.Prelude.{◌^◌, ◌≢◌, ◌⊎◌, Result, Ok, Err, option_and_then, unwrap_or}
 use Rattle.std.specs.Str.{bytes_eq}
 use Rattle.std.specs.Str.Parse.{ParsesUnsigned}
@@ -25,7 +25,6 @@ use Rattle.clap.specs.declared.error.kind.ErrorKind.TheVariants.{OutOfMemory}
 use Rattle.clap.specs.declared.parser.matches.Found.{Found}
 use Rattle.clap.specs.Values.{IsUnsignedIn}
 use Rattle.clap.specs.Walk.{Row, Rule, Text, first_of, is_empty, is_free_arg, is_simple_arg, one_of, rule_of, rows_of, texts}
-use Rattle.clap.specs.declared.builder.action.ArgAction.TheVariants.{Set}
 use Rattle.clap.specs.declared.builder.arg.Arg.{Arg}
 use Rattle.clap.specs.declared.builder.command.Command.{Command}
 use Rattle.clap.specs.declared.builder.command.Command.TheViews.{out-Command}
@@ -109,9 +108,9 @@ is_option c rs rules k d name most default own e =
       least = subst (λ (r : Option ValueRange). 1 ≤ (unwrap_or_range r).start_inclusive) (sym range) (omega arith);
       default = ((simple_parts (arg_at c k d) simple).1, some_text (items_of (arg_at c k d).default_vals) default (ap (λ (r : Rule). r.defaults) e));
       unique = λ j x lt same.
-      let there : (arg_at c j x).id.now ≡ (slice_index_or rs j (rule_of x)).id =
-      ap (λ (r : Rule). r.id) (rule_at (args_of c) j x lt ∙ ap (λ (l : List Rule). slice_index_or l j (rule_of x)) rules) in
-      own.unique j (rule_of x) (omega arith) (rw (← there, ← id) same);
+          let there : (arg_at c j x).id.now ≡ (slice_index_or rs j (rule_of x)).id =
+          ap (λ (r : Rule). r.id) (rule_at (args_of c) j x lt ∙ ap (λ (l : List Rule). slice_index_or l j (rule_of x)) rules) in
+          own.unique j (rule_of x) (omega arith) (rw (← there, ← id) same);
       named = λ empty. own.named (sym id ∙ empty);
       own = λ auto. elim auto [ inl h ↦ own.no_help (sym id ∙ h) | inr h ↦ own.no_version (sym id ∙ h) ];
       parser = ap (λ (r : Rule). r.parser) e;

@@ -8,6 +8,8 @@
 
 mod line;
 mod reading;
+#[cfg(test)]
+mod tests;
 
 pub use line::{CommandLine, MAX_SPREAD, MAX_WORKERS, Mode};
 pub use reading::read_words;

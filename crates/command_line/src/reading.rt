@@ -51,6 +51,16 @@ fn mode_of(word: &str) -> Option<Mode>
     }
 }
 
+/// What the first word of the matches says to do.
+fn mode_in(matches: &ArgMatches) -> Option<Mode>
+    ensures { result ≡ option_and_then mode_of (first_of (codes "mode") (rows_of (found_of matches.now))) }
+{
+    match matches.get_str("mode") {
+        Some(word) => mode_of(word),
+        None => None,
+    }
+}
+
 /// The number of an option that has one.
 fn option_number(matches: &ArgMatches, name: &str) -> u32
     requires number { (t : List ℕ) × (one_text (found_of matches.now) name.now ≡ Some t) × IsUnsignedIn 1 4294967295 t }
@@ -59,6 +69,16 @@ fn option_number(matches: &ArgMatches, name: &str) -> u32
     match matches.get_one::<u32>(name) {
         Some(number) => number,
         None => unreachable!(),
+    }
+}
+
+/// The answer where clap does not take the words, or is out of memory.
+fn refusal(kind: ErrorKind) -> Result<Option<CommandLine>, OutOfMemory>
+    ensures { IfOk result (λ line. (line ≡ None) × (kind ≢ ErrorKind.OutOfMemory)) }
+{
+    match kind {
+        ErrorKind::OutOfMemory => Err(OutOfMemory),
+        _ => Ok(None),
     }
 }
 
@@ -82,25 +102,9 @@ pub fn read_words(alloc: Global, words: &[String]) -> Result<Option<CommandLine>
     };
     let workers = option_number(&matches, "workers");
     let spread = option_number(&matches, "spread");
-    Ok(Some(CommandLine { mode, workers, spread }))
-}
-
-/// What the words of the matches say to do.
-fn mode_in(matches: &ArgMatches) -> Option<Mode>
-    ensures { result ≡ option_and_then mode_of (first_of (codes "mode") (rows_of (found_of matches.now))) }
-{
-    match matches.get_str("mode") {
-        Some(word) => mode_of(word),
-        None => None,
-    }
-}
-
-/// The answer where clap refuses the words, or is out of memory.
-fn refusal(kind: ErrorKind) -> Result<Option<CommandLine>, OutOfMemory>
-    ensures { IfOk result (λ line. (line ≡ None) × (kind ≢ ErrorKind.OutOfMemory)) }
-{
-    match kind {
-        ErrorKind::OutOfMemory => Err(OutOfMemory),
-        _ => Ok(None),
-    }
+    Ok(Some(CommandLine {
+        mode,
+        workers,
+        spread,
+    }))
 }

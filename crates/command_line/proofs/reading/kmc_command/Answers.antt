@@ -1,8 +1,7 @@
-use Rattle.std.proofs.Common.{◌≡◌, ◌∙◌, ap, ap₂, codes, rules, refl, true}
+use Rattle.std.proofs.Common.{◌≡◌, ◌∙◌, ap, ap₂, codes, rules, true}
 use Rattle.std.proofs.lemmas.Result.{IfOk-weaker}
 use Rattle.clap.specs.Simple.{App, app_of, app_of_fields, new_app, on_top, with_rule}
 use Rattle.clap.specs.Walk.{rule_of}
-use Rattle.command_line.proofs.Numbers.{line_is_free}
 use Rattle.command_line.specs.Grammar.{kmc_line, mode_rule, number_rule}
 use Rattle.command_line.specs.declared.line.TheConstants.{MAX_SPREAD, MAX_WORKERS}
 use Rattle.command_line.proofs.reading.kmc_command.Goals as goal

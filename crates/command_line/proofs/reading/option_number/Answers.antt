@@ -1,8 +1,8 @@
-use Rattle.std.proofs.Common.{◌≡◌, ◌∙◌, sym, ap, List, ℕ, Some, None, []}
+use Rattle.std.proofs.Common.{◌≡◌, ◌∙◌, sym, ap, Some}
 use Rattle.std.specs.Prelude.{unwrap_or}
 use Rattle.std.specs.Str.Parse.{ExplainsUnsignedError, HasUnsignedDigitsIfOk, ParsesUnsigned}
 use Rattle.clap.proofs.WalkLemmas.{one_text-rows}
-use Rattle.clap.specs.Matches.{found_of, one_text}
+use Rattle.clap.specs.Matches.{found_of}
 use Rattle.clap.specs.Walk.{one_of, rows_of}
 use Rattle.command_line.proofs.Numbers.{unsigned_read}
 use Rattle.command_line.specs.Grammar.{number_of}

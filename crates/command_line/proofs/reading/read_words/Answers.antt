@@ -1,14 +1,13 @@
-use Rattle.std.proofs.Common.{◌⊎◌, arith, ◌≡◌, ◌∙◌, refl, sym, ap, subst, List, map, true, [], None, Some, codes, string_bytes}
+use Rattle.std.proofs.Common.{arith, ◌≡◌, ◌∙◌, sym, ap, subst, map, [], codes, string_bytes}
 use Rattle.std.proofs.lemmas.Result.{IfOk-weaker}
-use Rattle.std.specs.Prelude.{option_and_then}
 use Rattle.clap.specs.Faults.{fault_of, is_simple_and_free}
 use Rattle.clap.specs.Matches.{found_of}
 use Rattle.clap.specs.Simple.{App, app_of, is_simple, matches_of}
 use Rattle.clap.specs.Kinds.{HasKind}
 use Rattle.clap.specs.Values.{kind_of}
-use Rattle.clap.specs.Walk.{first_of, rows_of}
+use Rattle.clap.specs.Walk.{rows_of}
 use Rattle.command_line.proofs.Numbers.{line_is_free, line_is_simple, no_line, number_within, refused_line, some_line, spread_read, taken_line, workers_read}
-use Rattle.command_line.specs.Grammar.{command_line, kmc_line, line_of, mode_of}
+use Rattle.command_line.specs.Grammar.{kmc_line}
 use Rattle.command_line.specs.declared.line.TheConstants.{MAX_SPREAD, MAX_WORKERS}
 use Rattle.command_line.proofs.reading.read_words.Goals as goal
 
