@@ -105,7 +105,7 @@ pub(crate) fn folder_of(
 }
 
 /// The words of a command.
-fn owned(alloc: Global, words: &[&str]) -> Result<Vec<String>, AllocError> {
+pub(crate) fn owned(alloc: Global, words: &[&str]) -> Result<Vec<String>, AllocError> {
     let mut owned = Vec::new(alloc);
     for word in words {
         owned.push(String::from_str(alloc, *word)?)?;

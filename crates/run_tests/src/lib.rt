@@ -21,6 +21,8 @@ mod screens_in_memory;
 #[cfg(test)]
 mod sequences;
 #[cfg(test)]
+mod shown_at_the_end;
+#[cfg(test)]
 mod statuses;
 #[cfg(test)]
 mod whole_runs;
