@@ -1,2 +1,3 @@
 pub mod OptionReads
 pub mod Numbers
+pub mod Rows

@@ -1,9 +1,10 @@
-//! What the words of a command line ask for: what to do, with how many workers, and how far apart the pieces of work are.
+//! What the words of a command line ask for: to run the deck or to check it, with how many workers, and from how many
+//! anchors of an event on they share its work.
 //!
 //! The words are those after the program's name. `clap` reads them, by the one command that `specs/Grammar.antt` writes out
-//! as plain data: a first word, and the options `--workers` and `--spread`, each with a whole number. There is no help and
-//! no version to ask for. `read_words` answers `None` for words outside this grammar, and an error only if it is out of
-//! memory.
+//! as plain data: a required word, and the options `--workers` and `--spread`, each with a whole number. There is no help
+//! and no version to ask for. `read_words` answers `None` for words outside this grammar, and its only error is that it is
+//! out of memory. The crate uses `kmc_base` for that error alone.
 #![tactic(auto)]
 
 mod line;

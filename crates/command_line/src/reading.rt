@@ -13,7 +13,7 @@ use clap::{Arg, ArgAction, ArgMatches, Command};
 use kmc_base::OutOfMemory;
 use std::alloc::{AllocError, Global};
 
-/// The option `--name` with a whole number from 1 to `most`, which is `default` where the option is not used.
+/// The option `--name` with a whole number from 1 to `most`. Without the option the number is `default`.
 fn number_option<'a>(alloc: Global, name: &'a str, most: u32, default: &'a str) -> Arg<'a>
     ensures rule { rule_of result ≡ number_rule name.entry.now most default.entry.now }
     ensures local { result.global ≡ false }
@@ -40,7 +40,7 @@ fn kmc_command<'a>(alloc: Global) -> Result<Command<'a>, AllocError>
         .arg(spread)
 }
 
-/// What a first word says to do.
+/// What the required word says to do.
 fn mode_of(word: &str) -> Option<Mode>
     ensures { result ≡ mode_of word.now }
 {
@@ -51,7 +51,7 @@ fn mode_of(word: &str) -> Option<Mode>
     }
 }
 
-/// What the first word of the matches says to do.
+/// What the required word of the matches says to do.
 fn mode_in(matches: &ArgMatches) -> Option<Mode>
     ensures { result ≡ option_and_then mode_of (first_of (codes "mode") (rows_of (found_of matches.now))) }
 {
@@ -61,7 +61,7 @@ fn mode_in(matches: &ArgMatches) -> Option<Mode>
     }
 }
 
-/// The number of an option that has one.
+/// The number of an option that has a text within the range of `u32`.
 fn option_number(matches: &ArgMatches, name: &str) -> u32
     requires number { (t : List ℕ) × (one_text (found_of matches.now) name.now ≡ Some t) × IsUnsignedIn 1 4294967295 t }
     ensures { result ≡ option_number name.now (rows_of (found_of matches.now)) }
