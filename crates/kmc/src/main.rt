@@ -12,9 +12,10 @@ mod tests;
 mod transfer;
 
 use disk_folder::DiskFolder;
-use kmc_base::OpenGate;
+use kmc_base::{OpenGate, Sink};
 use kmc_run::{Status, run_program};
 use screen_sink::ScreenSink;
+use screen_text::{print_no_memory, print_usage};
 use std::io::ErrorKind;
 use std::process::ExitCode;
 use std::rt::Env;
@@ -26,26 +27,29 @@ fn words(rt: &(impl Env + AllocGlobal)) -> io::Result<Vec<String>> {
     Ok(words)
 }
 
-/// The status where the words could not be read: one of them is not valid text, or memory ran out.
-fn without_words(error: &io::Error) -> Status {
+/// Tells that the words could not be read: one of them is not valid text, or memory ran out.
+fn without_words<S: Sink>(screen: &mut S, error: &io::Error) -> Status {
     if error.kind() == ErrorKind::OutOfMemory {
+        let _ = print_no_memory(screen);
         Status::OutOfMemory
     } else {
+        let _ = print_usage(screen);
         Status::BadWords
     }
 }
 
 fn main(rt: HostRuntime) -> ExitCode {
+    let mut screen = ScreenSink::new(&rt);
     let status = match words(&rt) {
         Ok(words) => run_program(
             &rt,
             rt.alloc(),
             &words,
             &mut DiskFolder::new(&rt),
-            &mut ScreenSink::new(&rt),
+            &mut screen,
             &OpenGate,
         ),
-        Err(error) => without_words(&error),
+        Err(error) => without_words(&mut screen, &error),
     };
     ExitCode::from(status.number())
 }

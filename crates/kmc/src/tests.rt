@@ -1,6 +1,6 @@
 use super::*;
 use crate::transfer::{read_whole, write_whole};
-use kmc_base::{Failed, FileId, Folder, LoadFault, OutId, Sink};
+use kmc_base::{Failed, FileId, Folder, LoadFault, OutId};
 use std::alloc::Global;
 use std::fs;
 use std::io::{Read, Write};
@@ -41,6 +41,7 @@ fn loads<R: Files + Abort>(
 fn inputs_are_read_from_the_working_directory(rt: HostRuntime) -> Result<(), Fail> {
     // Each file holds its own name.
     for (file, name) in INPUTS {
+        assert_eq!(rt; file.name(), *name);
         loads(&rt, rt.alloc(), *file, 100, Err(LoadFault::Absent))?;
         fs::write(&rt, *name, *name)?;
         loads(&rt, rt.alloc(), *file, name.len(), Ok(*name))?;
@@ -91,7 +92,8 @@ fn outputs_are_written_to_the_working_directory(rt: HostRuntime) -> Result<(), F
         append_in_turn(&mut folder)?;
         holds(&rt, "")?;
     }
-    for (out, _) in OUTPUTS {
+    for (out, name) in OUTPUTS {
+        assert_eq!(rt; out.name(), *name);
         DiskFolder::new(&rt).append(*out, b" more")?;
     }
     holds(&rt, " more")
@@ -186,8 +188,9 @@ fn goes_on_after_an_interruption(rt: HostRuntime) -> Result<(), Fail> {
 
 #[test]
 fn words_that_could_not_be_read(rt: HostRuntime) {
+    let mut screen = ScreenSink::new(&rt);
     let no_memory = io::Error::from(ErrorKind::OutOfMemory);
-    assert_eq!(rt; without_words(&no_memory), Status::OutOfMemory);
+    assert_eq!(rt; without_words(&mut screen, &no_memory), Status::OutOfMemory);
     let no_text = io::Error::from(ErrorKind::InvalidData);
-    assert_eq!(rt; without_words(&no_text), Status::BadWords);
+    assert_eq!(rt; without_words(&mut screen, &no_text), Status::BadWords);
 }

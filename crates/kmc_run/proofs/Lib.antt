@@ -1,4 +1,5 @@
 pub mod DriveLemmas
+pub mod EndLemmas
 pub mod EventLemmas
 pub mod EventTimes
 pub mod SampleLemmas

@@ -1,21 +1,20 @@
 -- The samples that show an event, and their numbers.
-use Rattle.std.proofs.Common.{◌≡◌, ℕ, ◌+◌, ◌≤◌, List, [], ◌∷◌, ◌++◌, Option, None, Some, Result, Ok, Err, OnOk, refl, ap, sym, subst, ◌∙◌}
+use Rattle.std.proofs.Common.{◌≡◌, ℕ, ◌+◌, List, [], ◌∷◌, Option, None, Some, Result, Ok, Err, OnOk, ap, sym, subst, ◌∙◌}
 use Rattle.std.proofs.lemmas.List.{append-nil}
 use Rattle.std.specs.List.{flat_map}
 use Rattle.std.specs.Option.{IsSomeAnd, option_map_or}
 use Rattle.deck.specs.declared.deck.Deck.{Deck}
 use Rattle.kmc_base.specs.declared.ids.OutId.{OutId}
 use Rattle.kmc_base.specs.declared.ids.OutId.TheVariants.{History, Procstat, Specnum}
-use Rattle.kmc_core.specs.DeckSystem.{DeckState, trajectory_of}
+use Rattle.kmc_core.specs.DeckSystem.{DeckState}
 use Rattle.kmc_report.proofs.DueAtEvents.{event-sample, next-some, no-event-sample}
 use Rattle.kmc_report.specs.Sampler.{SamplerState, given_before, given_of, next_at_event, next_if, one_more}
-use Rattle.kmc_report.specs.Samples.{event_samples, is_due_at, is_due_before, sampling_of}
+use Rattle.kmc_report.specs.Samples.{event_samples, is_due_at, sampling_of}
 use Rattle.kmc_report.specs.declared.sampler.Given.{Given}
 use Rattle.kmc_run.specs.Given.{with_given}
 use Rattle.kmc_run.specs.Samples.{event_writes, piece_of, sample_write, shown_at}
-use Rattle.kmc_run.specs.Writes.{Append, Write}
+use Rattle.kmc_run.specs.Writes.{Append}
 use Rattle.run_plan.specs.Soundness.{IsPeriod}
-use Rattle.run_plan.specs.declared.plan.Plan.{Plan}
 use Rattle.run_plan.specs.declared.plan.Sampling.{Sampling}
 use Rattle.trajectory.specs.Trajectory.{Snapshot}
 use Rattle.zacros_output.specs.Shown.{Shown}

@@ -1,5 +1,5 @@
 -- The time samples that show an event, written one after another.
-use Rattle.std.proofs.Common.{◌≡◌, ℕ, ◌+◌, ◌≤◌, List, [], ◌∷◌, ◌++◌, Option, None, Some, refl, ap, sym, subst, ◌∙◌, arith}
+use Rattle.std.proofs.Common.{◌≡◌, ℕ, ◌+◌, ◌≤◌, List, [], ◌++◌, Option, None, Some, refl, ap, sym, subst, ◌∙◌, arith}
 use Rattle.std.proofs.lemmas.List.{append_assoc, append-nil}
 use Rattle.std.specs.List.{flat_map}
 use Rattle.deck.specs.declared.deck.Deck.{Deck}
@@ -19,7 +19,6 @@ use Rattle.kmc_run.specs.Writes.{BrokeOff, FolderState, Write, WroteAll}
 use Rattle.kmc_run.specs.declared.drive_fault.DriveFault.{DriveFault}
 use Rattle.run_plan.specs.Soundness.{IsPeriod}
 use Rattle.run_plan.specs.declared.plan.Plan.{Plan}
-use Rattle.run_plan.specs.declared.plan.Sampling.{Sampling}
 
 -- the writes of the time samples that show an event and are left, from the next one on
 abbrev left_writes : Deck → ℕ → ℕ → OutId → ℕ → List Write

@@ -1,6 +1,7 @@
 -- What the program may answer, and what it leaves in the outputs.
-use Rattle.std.specs.Prelude.{◌≡◌, ◌≢◌, ℕ, [], ◌∷◌, Bool, false, List, Option, None, Some, IfSome, Result, Ok, Err, codes}
-use Rattle.deck_words.specs.Tables.{same_word}
+use Rattle.std.specs.Prelude.{◌≡◌, ◌≢◌, [], List, Option, None, Some, IfSome, Result, Ok, Err}
+use Rattle.command_line.specs.declared.line.Mode.{Mode}
+use Rattle.command_line.specs.declared.line.Mode.TheVariants.{Run, Check}
 use Rattle.deck_shape.specs.declared.fault.Fault.{Fault}
 use Rattle.kmc_base.specs.Numbered.{Numbered}
 use Rattle.kmc_base.specs.Outs.{Outs}
@@ -10,15 +11,22 @@ use Rattle.deck.specs.declared.deck.Deck.{Deck}
 use Rattle.deck_join.specs.Loads.{IsOfDeck, first_failing}
 use Rattle.kmc_run.specs.Samples.{run_writes}
 use Rattle.kmc_run.specs.Writes as writing
+use Rattle.kmc_run.specs.Writes.{Write}
 use Rattle.kmc_run.specs.declared.drive_fault.DriveFault.TheVariants.{WriteFault as WriteFailed, OutOfMemory as NoMemory}
 use Rattle.kmc_run.specs.declared.status.Status.{Status}
 use Rattle.kmc_run.specs.declared.status.Status.TheVariants.{Done, BadWords, Refused, ReadFault, WriteFault, ScreenFault, OutOfMemory}
 
--- the words are a command that the program takes: the one word `run`
-abbrev pub is_run_command : List (List ℕ) → Bool
-is_run_command (word ∷ []) = same_word word (codes "run")
-is_run_command [] = false
-is_run_command (word ∷ next ∷ others) = false
+-- the status with which a command ends, by the text that it has for the screen, if all was done
+abbrev pub ending_of : {X : Type 0} → Result X Status → Status
+ending_of (Ok text) = Done
+ending_of (Err status) = status
+
+-- a status that is not the end of all that a command does
+abbrev pub IsFailure : Status → Type 0
+IsFailure Done = ⊥
+IsFailure ScreenFault = ⊥
+IsFailure BadWords = ⊥
+IsFailure status = Unit {0}
 
 -- the file that could not be read, by a status
 abbrev pub failed_read : Status → Option FileId
@@ -39,34 +47,42 @@ abbrev pub failed_write : Status → Option OutId
 failed_write (WriteFault out) = Some out
 failed_write status = None
 
--- What a run may answer, by what its files give. A deck is run: the answer is Done, a fault of reading or writing,
--- or out of memory. Files with a fault are refused with the first, unless reading failed or memory was short.
-abbrev pub MayAnswer : Result Deck Fault → Status → Type 0
-MayAnswer (Ok deck) BadWords = ⊥
-MayAnswer (Ok deck) (Refused fault) = ⊥
-MayAnswer (Ok deck) ScreenFault = ⊥
-MayAnswer (Ok deck) status = Unit {0}
-MayAnswer (Err first) (Refused fault) = fault ≡ first
-MayAnswer (Err first) (ReadFault file) = Unit {0}
-MayAnswer (Err first) OutOfMemory = Unit {0}
-MayAnswer (Err first) status = ⊥
+-- What a command may answer, by what its files give. A deck is run or checked: the answer is Done, a fault of reading, of
+-- writing where the command writes, or of the screen, or out of memory. Files with a fault are refused with the first, unless
+-- reading failed or memory was short.
+abbrev pub MayAnswer : Mode → Result Deck Fault → Status → Type 0
+MayAnswer mode (Ok deck) BadWords = ⊥
+MayAnswer mode (Ok deck) (Refused fault) = ⊥
+MayAnswer Check (Ok deck) (WriteFault out) = ⊥
+MayAnswer mode (Ok deck) status = Unit {0}
+MayAnswer mode (Err first) (Refused fault) = fault ≡ first
+MayAnswer mode (Err first) (ReadFault file) = Unit {0}
+MayAnswer mode (Err first) OutOfMemory = Unit {0}
+MayAnswer mode (Err first) status = ⊥
 
--- What a run of a deck leaves in the outputs. Done: all its writes are done. A fault of writing, or out of memory: those
--- before the one that failed, or the first of them. Any other answer: nothing is written.
-abbrev pub LeavesOuts : Deck → Status → Option Outs → Option Outs → Type 0
-LeavesOuts deck Done before after = writing.Done (run_writes deck) before after
-LeavesOuts deck (WriteFault out) before after = writing.Ended (run_writes deck) (WriteFailed out) before after
-LeavesOuts deck OutOfMemory before after = writing.Ended (run_writes deck) NoMemory before after
-LeavesOuts deck status before after = after ≡ before
+-- all that a command writes, of a deck: a check writes nothing
+abbrev pub writes_of : Mode → Deck → List Write
+writes_of Run deck = run_writes deck
+writes_of Check deck = []
 
--- An answer that says that nothing was run leaves the outputs as they were, whatever the folder reports.
-abbrev pub KeepsOuts : Status → Option Outs → Option Outs → Type 0
-KeepsOuts BadWords before after = after ≡ before
-KeepsOuts (Refused fault) before after = after ≡ before
-KeepsOuts (ReadFault file) before after = after ≡ before
-KeepsOuts status before after = Unit {0}
+-- What these writes leave in the outputs. Done, and after a fault of the screen: all of them are done. A fault of writing, or
+-- out of memory: those before the one that failed, or the first of them. Any other answer: nothing is written.
+abbrev pub LeavesOuts : List Write → Status → Option Outs → Option Outs → Type 0
+LeavesOuts writes Done before after = writing.Done writes before after
+LeavesOuts writes ScreenFault before after = writing.Done writes before after
+LeavesOuts writes (WriteFault out) before after = writing.Ended writes (WriteFailed out) before after
+LeavesOuts writes OutOfMemory before after = writing.Ended writes NoMemory before after
+LeavesOuts writes status before after = after ≡ before
 
 -- what is left: where the files have a fault, nothing is written
-abbrev pub Leaves : Result Deck Fault → Status → Option Outs → Option Outs → Type 0
-Leaves (Ok deck) status before after = LeavesOuts deck status before after
-Leaves (Err first) status before after = after ≡ before
+abbrev pub Leaves : Mode → Result Deck Fault → Status → Option Outs → Option Outs → Type 0
+Leaves mode (Ok deck) status before after = LeavesOuts (writes_of mode deck) status before after
+Leaves mode (Err first) status before after = after ≡ before
+
+-- A check leaves the outputs as they were, whatever the folder reports, and so does an answer that says that nothing was run.
+abbrev pub KeepsOuts : Mode → Status → Option Outs → Option Outs → Type 0
+KeepsOuts Check status before after = after ≡ before
+KeepsOuts Run BadWords before after = after ≡ before
+KeepsOuts Run (Refused fault) before after = after ≡ before
+KeepsOuts Run (ReadFault file) before after = after ≡ before
+KeepsOuts Run status before after = Unit {0}

@@ -1,4 +1,5 @@
 pub mod Answers
+pub mod Ends
 pub mod Given
 pub mod Samples
 pub mod Statuses

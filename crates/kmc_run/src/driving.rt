@@ -1,7 +1,9 @@
 ghost use Rattle.std.specs.Prelude.{◌≡◌, ◌≤◌, ℕ, ◌++◌, ◌∷◌, [], List, IfOk, IfErr, OnOk, IsSomeAnd, Some};
 ghost use Rattle.std.specs.List.{flat_map};
+ghost use Rattle.command_line.specs.declared.line.TheConstants.{MAX_WORKERS};
 ghost use Rattle.deck.specs.Soundness.{IsSound};
 ghost use Rattle.kmc_base.specs.Faults.{OnlyFailed, SameCounts};
+ghost use Rattle.kmc_base.specs.declared.limits.TheConstants.{END_OF_TIME};
 ghost use Rattle.kmc_core.specs.DeckSystem.{trajectory_of};
 ghost use Rattle.kmc_core.specs.Run.{energy_of, stop_of};
 ghost use Rattle.kmc_run.specs.Samples.{events_from, writes_at, run_writes};
@@ -21,9 +23,6 @@ use std::alloc::Global;
 use std::marker::Sync;
 use std::thread::Threads;
 use zacros_output::adsorbates;
-
-/// The greatest number of workers of a run.
-pub const MAX_WORKERS: u32 = 64;
 
 /// The run at an event that has fired, with its instances listed.
 fn close(alloc: Global, mut next: Unclosed) -> Result<Closed, OutOfMemory>
@@ -66,6 +65,7 @@ fn summary_of(alloc: Global, last: &Closed, stop: Stop) -> Result<Summary, OutOf
     ensures events { IfOk result (λ summary. summary.events ≡ last.now.event) }
     ensures stop { IfOk result (λ summary. summary.stop ≡ stop) }
     ensures time { IfOk result (λ summary. IsSomeAnd (trajectory_of last.now.deck last.now.event) (λ s. summary.time ≡ s.time)) }
+    ensures in_time { IfOk result (λ summary. summary.time ≤ END_OF_TIME) }
     ensures energy { IfOk result (λ summary. IsSomeAnd (trajectory_of last.now.deck last.now.event) (λ s. summary.energy ≡ energy_of last.now.deck s.state.states)) }
     ensures surface { IfOk result (λ summary. IsSomeAnd (trajectory_of last.now.deck last.now.event) (λ s. summary.surface ≡ adsorbates last.now.deck.book s.state.states)) }
     ensures gas { IfOk result (λ summary. IsSomeAnd (trajectory_of last.now.deck last.now.event) (λ s. summary.gas ≡ s.state.gas)) }

@@ -1,13 +1,14 @@
-//! kmc as a library: the words, the run of a deck and what it writes.
+//! kmc as a library: the commands, the run of a deck, what it writes and what is on the screen.
 //!
 //! `run_program` is the program, from its words and the bytes of its input files to its status and the bytes of its
-//! outputs. It uses `deck_join` for the deck of the files or their first fault, `kmc_core` for the trajectory of the deck,
-//! `kmc_report` for the samples that are due, `zacros_output` for their text, and the folder, the screen and the gate of
-//! `kmc_base` for the outside.
+//! outputs and of the screen. It uses `command_line` for the words, `deck_join` for the deck of the files or their first
+//! fault, `kmc_core` for the trajectory of the deck, `kmc_report` for the samples that are due, `zacros_output` for their
+//! text, `screen_text` for the texts on the screen, and the folder, the screen and the gate of `kmc_base` for the outside.
 #![tactic(auto)]
 
 mod drive_fault;
 mod driving;
+mod ending;
 mod heads;
 mod program;
 mod samples;
@@ -15,9 +16,10 @@ mod status;
 mod summary;
 mod writing;
 
+pub use command_line::MAX_WORKERS;
 pub use deck_shape::Fault;
 pub use drive_fault::DriveFault;
-pub use driving::{MAX_WORKERS, drive};
+pub use driving::drive;
 pub use program::run_program;
 pub use status::Status;
 pub use summary::Summary;

@@ -1,7 +1,11 @@
 ghost use Rattle.std.specs.Prelude.{◌≡◌};
+ghost use Rattle.kmc_run.specs.Statuses.{status_of_fault, status_of_refusal};
+ghost use Rattle.kmc_run.specs.declared.status.Status.TheVariants.{OutOfMemory as NoMemory};
 
+use crate::drive_fault::DriveFault;
+use deck_join::DeckRefusal;
 use deck_shape::Fault;
-use kmc_base::{FileId, OutId};
+use kmc_base::{FileId, OutId, OutOfMemory};
 
 /// How a run of the program ended.
 #[derive(Clone, Copy, Debug, PartialEq, Eq)]
@@ -38,5 +42,36 @@ impl Status {
             Status::ScreenFault => 6,
             Status::OutOfMemory => 7,
         }
+    }
+}
+
+impl From<DeckRefusal> for Status {
+    ghost from_gives = { λ refusal status. status ≡ status_of_refusal refusal };
+
+    fn from(refusal: DeckRefusal) -> Status {
+        match refusal {
+            DeckRefusal::Load(file) => Status::ReadFault(file),
+            DeckRefusal::Fault(fault) => Status::Refused(fault),
+            DeckRefusal::OutOfMemory => Status::OutOfMemory,
+        }
+    }
+}
+
+impl From<DriveFault> for Status {
+    ghost from_gives = { λ fault status. status ≡ status_of_fault fault };
+
+    fn from(fault: DriveFault) -> Status {
+        match fault {
+            DriveFault::WriteFault(out) => Status::WriteFault(out),
+            DriveFault::OutOfMemory => Status::OutOfMemory,
+        }
+    }
+}
+
+impl From<OutOfMemory> for Status {
+    ghost from_gives = { λ _ status. status ≡ NoMemory };
+
+    fn from(_error: OutOfMemory) -> Status {
+        Status::OutOfMemory
     }
 }

@@ -13,8 +13,7 @@ const RAN: &str = "done events 4 time 0.000000000000000001 stop still\n";
 const CHECKED: &str = "sites 4\nprocesses 1\nclusters 0\n";
 
 /// What the command line takes.
-const USAGE: &str =
-    "kmc: run, check, sample N or schedule N, with --workers W and --spread M\n";
+const USAGE: &str = "kmc: run, check, sample N or schedule N, with --workers W and --spread M\n";
 
 /// Runs the program where it is given these words, these loads and this append fail, and this put of the screen. They are
 /// counted from 1. It ends with a status and with a text on the screen.
@@ -45,7 +44,13 @@ fn text_of_each_status(rt: HostRuntime) -> Result<(), Fail> {
         (&["check"], [0, 0], 0, Status::Done, CHECKED),
         (&[], [0, 0], 0, Status::BadWords, USAGE),
         (&["run", "3"], [0, 0], 0, Status::BadWords, USAGE),
-        (&["run", "--workers", "0"], [0, 0], 0, Status::BadWords, USAGE),
+        (
+            &["run", "--workers", "0"],
+            [0, 0],
+            0,
+            Status::BadWords,
+            USAGE,
+        ),
         (&["walk"], [0, 0], 0, Status::BadWords, USAGE),
         (
             &["check"],
@@ -90,7 +95,14 @@ fn text_of_a_fault(rt: HostRuntime) -> Result<(), Fail> {
         ("check", 1, ""),
     ];
     for (word, put, text) in CASES {
-        shows(&rt, rt.alloc(), &[*word], &NARROW, ([0, 0], 0, *put), (FAULT, *text))?;
+        shows(
+            &rt,
+            rt.alloc(),
+            &[*word],
+            &NARROW,
+            ([0, 0], 0, *put),
+            (FAULT, *text),
+        )?;
     }
     Ok(())
 }
@@ -104,7 +116,14 @@ fn screen_that_fails(rt: HostRuntime) -> Result<(), Fail> {
         ("walk", Status::BadWords),
     ];
     for (word, status) in CASES {
-        shows(&rt, rt.alloc(), &[*word], &FILLED, ([0, 0], 0, 1), (*status, ""))?;
+        shows(
+            &rt,
+            rt.alloc(),
+            &[*word],
+            &FILLED,
+            ([0, 0], 0, 1),
+            (*status, ""),
+        )?;
     }
     Ok(())
 }

@@ -1,9 +1,11 @@
+ghost use Rattle.std.specs.Prelude.{◌≡◌, IfOk};
 ghost use Rattle.screen_text.specs.Printing.{Printed, screen_by};
 ghost use Rattle.screen_text.specs.Texts.{deck_text, fault_text, no_memory_text, unread_text, unwritten_text, usage_text};
 
 use crate::printing::print_pieces;
 use itoa::Buffer;
-use kmc_base::{Failed, FileId, OutId, Sink};
+use kmc_base::{Failed, FileId, OutId, OutOfMemory, Sink};
+use std::alloc::Global;
 
 /// Prints what the command line takes.
 pub fn print_usage<S: Sink>(screen: &mut S) -> Result<(), Failed>
@@ -51,32 +53,15 @@ pub fn print_no_memory<S: Sink>(screen: &mut S) -> Result<(), Failed>
     print_pieces(screen, &["out of memory\n"])
 }
 
-/// Prints how many sites, processes and clusters a deck has.
-pub fn print_deck<S: Sink>(
-    screen: &mut S,
+/// How many sites, processes and clusters a deck has, as lines.
+pub fn deck_text(
+    alloc: Global,
     sites: u32,
-    processes: u64,
-    clusters: u64,
-) -> Result<(), Failed>
-    ensures { Printed (deck_text sites processes clusters) result (screen_by S.faults S.taken screen.old)
-        (screen_by S.faults S.taken screen.new) }
+    processes: usize,
+    clusters: usize,
+) -> Result<Vec<u8>, OutOfMemory>
+    ensures { IfOk result (λ text. text.items ≡ deck_text sites processes clusters) }
 {
-    let mut of_sites = Buffer::new();
-    let mut of_processes = Buffer::new();
-    let mut of_clusters = Buffer::new();
-    let sites = of_sites.format(sites);
-    let processes = of_processes.format(processes);
-    let clusters = of_clusters.format(clusters);
-    print_pieces(
-        screen,
-        &[
-            "sites ",
-            sites,
-            "\nprocesses ",
-            processes,
-            "\nclusters ",
-            clusters,
-            "\n",
-        ],
-    )
+    let text = format!(in alloc; "sites {sites}\nprocesses {processes}\nclusters {clusters}\n")?;
+    Ok(text.into_bytes())
 }

@@ -1,4 +1,4 @@
-use Rattle.std.proofs.Common.{◌≡◌, subst, sym}
+use Rattle.std.proofs.Common.{subst, sym}
 use Rattle.deck.specs.Soundness.{dentates_in}
 use Rattle.deck.specs.declared.deck.Deck.{Deck}
 use Rattle.lattice_core.specs.Config.{IsWellFormed}
