@@ -39,7 +39,7 @@ fn without_words<S: Sink>(screen: &mut S, error: &io::Error) -> Status {
 }
 
 fn main(rt: HostRuntime) -> ExitCode {
-    let mut screen = ScreenSink::new(&rt);
+    let mut screen = ScreenSink::new(rt.stdout());
     let status = match words(&rt) {
         Ok(words) => run_program(
             &rt,

@@ -101,7 +101,7 @@ fn outputs_are_written_to_the_working_directory(rt: HostRuntime) -> Result<(), F
 
 #[test]
 fn screen_takes_a_piece(rt: HostRuntime) {
-    let mut screen = ScreenSink::new(&rt);
+    let mut screen = ScreenSink::new(rt.stdout());
     assert_eq!(rt; screen.put(b"a piece\n"), Ok(()));
     assert_eq!(rt; screen.put(b""), Ok(()));
 }
@@ -188,7 +188,7 @@ fn goes_on_after_an_interruption(rt: HostRuntime) -> Result<(), Fail> {
 
 #[test]
 fn words_that_could_not_be_read(rt: HostRuntime) {
-    let mut screen = ScreenSink::new(&rt);
+    let mut screen = ScreenSink::new(rt.stdout());
     let no_memory = io::Error::from(ErrorKind::OutOfMemory);
     assert_eq!(rt; without_words(&mut screen, &no_memory), Status::OutOfMemory);
     let no_text = io::Error::from(ErrorKind::InvalidData);
