@@ -13,23 +13,23 @@ use Rattle.kmc_run.specs.declared.drive_fault.DriveFault.{DriveFault}
 use Rattle.kmc_run.specs.declared.drive_fault.DriveFault.TheVariants.{OutOfMemory}
 
 -- the events after one of which at most so many follow
-later : Deck → ℕ → ℕ → List ℕ
+pub later : Deck → ℕ → ℕ → List ℕ
 later deck zero event = []
 later deck (suc left) event = if is_none (stop_of deck event) then events_after deck left (event + 1) else []
 
-first-later : (deck : Deck) (left event : ℕ) → events_after deck left event ≡ event ∷ later deck left event
+pub first-later : (deck : Deck) (left event : ℕ) → events_after deck left event ≡ event ∷ later deck left event
 unfolding later
 first-later deck zero event = refl
 first-later deck (suc left) event = refl
 
 -- none follow one at which the run stops
-later-stopped : (deck : Deck) (left event : ℕ) (stop : Stop) → stop_of deck event ≡ Some stop → later deck left event ≡ []
+pub later-stopped : (deck : Deck) (left event : ℕ) (stop : Stop) → stop_of deck event ≡ Some stop → later deck left event ≡ []
 unfolding later
 later-stopped deck zero event stop is = refl
 later-stopped deck (suc left) event stop is = ap (λ s. if is_none s then events_after deck left (event + 1) else []) is
 
 -- the next one follows one at which it does not
-later-next : (deck : Deck) (left event : ℕ) → stop_of deck event ≡ None → later deck (suc left) event ≡ events_after deck left (event + 1)
+pub later-next : (deck : Deck) (left event : ℕ) → stop_of deck event ≡ None → later deck (suc left) event ≡ events_after deck left (event + 1)
 unfolding later
 later-next deck left event is = ap (λ s. if is_none s then events_after deck left (event + 1) else []) is
 

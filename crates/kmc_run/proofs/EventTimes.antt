@@ -32,7 +32,7 @@ goes-on-some : (plan : Plan) (event time least : ℕ) → stop_at plan event tim
 goes-on-some plan event time least is = grind (arith)
 
 -- the next event of a run that goes on
-record NextEvent (deck : Deck) (event : ℕ) (s : Snapshot DeckState) : Type 0 where
+pub record NextEvent (deck : Deck) (event : ℕ) (s : Snapshot DeckState) : Type 0 where
   pub snapshot : Snapshot DeckState
   pub is : trajectory_of deck (event + 1) ≡ Some snapshot
   pub in_time : snapshot.time ≤ end_of_time deck.plan
@@ -45,7 +45,7 @@ next-is deck event s first e m =
     ∙ (ap (option_and_then (next (system_of deck) deck.plan.seed (suc event))) e
     ∙ ap (option_map (fired (system_of deck) deck.plan.seed (suc event) s)) m)
 
-next-of : (deck : Deck) (event : ℕ) (s : Snapshot DeckState) → trajectory_of deck event ≡ Some s → stop_of deck event ≡ None
+pub next-of : (deck : Deck) (event : ℕ) (s : Snapshot DeckState) → trajectory_of deck event ≡ Some s → stop_of deck event ≡ None
     → NextEvent deck event s
 next-of deck event s e is =
     let stop : Option ℕ → Option Stop = stop_at deck.plan event s.time in
@@ -84,7 +84,7 @@ next-in_time deck event is =
     ] refl
 
 -- and not before the present one
-next-not-before : (deck : Deck) (event : ℕ) → stop_of deck event ≡ None → time_of deck event ≤ time_of deck (event + 1)
+pub next-not-before : (deck : Deck) (event : ℕ) → stop_of deck event ≡ None → time_of deck event ≤ time_of deck (event + 1)
 next-not-before deck event is =
     elim (trajectory_of deck event) as (λ o. trajectory_of deck event ≡ o → time_of deck event ≤ time_of deck (event + 1)) [
       | None ↦ λ e. let none : time_of deck event ≡ 0 = time-none deck event e in omega (arith, none)

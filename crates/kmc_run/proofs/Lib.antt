@@ -2,7 +2,10 @@ pub mod DriveLemmas
 pub mod EndLemmas
 pub mod EventLemmas
 pub mod EventTimes
+pub mod RunEvents
 pub mod SampleLemmas
+pub mod SamplesAreDue
 pub mod TimeSamples
 pub mod WriteLemmas
+pub mod WritesTo
 pub mod WroteLemmas
