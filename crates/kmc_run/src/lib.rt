@@ -4,6 +4,7 @@
 //! outputs and of the screen. It uses `command_line` for the words, `deck_join` for the deck of the files or their first
 //! fault, `kmc_core` for the trajectory of the deck, `kmc_report` for the samples that are due, `zacros_output` for their
 //! text, `screen_text` for the texts on the screen, and the folder, the screen and the gate of `kmc_base` for the outside.
+//! Four laws say what a run writes: `runs_go_to_their_stop`, `run_never_falls`, `writes_its_samples` and `samples_are_due`.
 #![tactic(auto)]
 
 mod drive_fault;

@@ -15,6 +15,8 @@ mod folders_in_memory;
 #[cfg(test)]
 mod gas_and_steps;
 #[cfg(test)]
+mod laws_of_runs;
+#[cfg(test)]
 mod refusals;
 #[cfg(test)]
 mod screens_in_memory;
