@@ -1,7 +1,8 @@
 //! What is read from the made decks.
 
-ghost use Rattle.std.specs.Prelude.{◌≤◌, IfOk};
-ghost use Rattle.deck_join.specs.Texts.{IsShort};
+ghost use Rattle.std.specs.Prelude.{◌≡◌, ◌≤◌, IfOk, map};
+ghost use Rattle.std.specs.List.{All};
+ghost use Rattle.deck_join.specs.Texts.{IsShort, deck_files};
 ghost use Rattle.deck_maker.specs.declared.decks.TheConstants.{MAX_DECK};
 
 use deck::Deck;
@@ -14,26 +15,33 @@ use std::alloc::Global;
 use std::test::Fail;
 
 /// The text of a file.
-fn text_of(bytes: Vec<u8>) -> Result<Text, Fail>
+fn text_of(alloc: Global, bytes: &[u8]) -> Result<Text, Fail>
     ensures { IfOk result IsShort }
 {
     if bytes.len() > MAX_FILE_BYTES {
         return Err("too long")?;
     }
-    Ok(Text::Bytes(Sequence::new(bytes)))
+    Ok(Text::Bytes(Sequence::new(bytes.to_vec(alloc)?)))
+}
+
+/// The text of each file, with the file.
+fn texts_of(alloc: Global, files: &[Vec<u8>; 4]) -> Result<[(FileId, Text); 4], Fail>
+    ensures files { IfOk result (λ texts. map (λ text. text.0) texts ≡ deck_files) }
+    ensures short { IfOk result (All (λ text. IsShort text.1)) }
+{
+    Ok([
+        (FileId::Simulation, text_of(alloc, &files[0])?),
+        (FileId::Lattice, text_of(alloc, &files[1])?),
+        (FileId::Energetics, text_of(alloc, &files[2])?),
+        (FileId::Mechanism, text_of(alloc, &files[3])?),
+    ])
 }
 
 /// The deck of a number, as it is read.
 fn deck_of(alloc: Global, number: u32) -> Result<Deck, Fail>
     requires { number ≤ MAX_DECK }
 {
-    let [simulation, lattice, energetics, mechanism] = make(alloc, number)?;
-    let texts = [
-        (FileId::Simulation, text_of(simulation)?),
-        (FileId::Lattice, text_of(lattice)?),
-        (FileId::Energetics, text_of(energetics)?),
-        (FileId::Mechanism, text_of(mechanism)?),
-    ];
+    let texts = texts_of(alloc, &make(alloc, number)?)?;
     match load_deck(alloc, &texts) {
         Ok(deck) => Ok(deck),
         Err(DeckFault::Fault(_)) => Err("a fault")?,

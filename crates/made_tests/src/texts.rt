@@ -49,12 +49,13 @@ no_restart
 finish
 ";
 
-/// The lattice files of decks 0 and 99.
+/// The lattice file of deck 0.
 const FIRST_LATTICE: &str = "lattice default_choice
 rectangular_periodic 1.0 10 10
 end_lattice
 ";
 
+/// The lattice file of deck 99.
 const LAST_LATTICE: &str = "lattice default_choice
 rectangular_periodic 1.0 100 100
 end_lattice
@@ -139,21 +140,18 @@ end_mechanism
 ";
 
 #[test]
-fn files_of_deck_0(rt: HostRuntime) -> Result<(), Fail> {
-    let files = make(rt.alloc(), 0)?;
-    let texts = [FIRST_SIMULATION, FIRST_LATTICE, ENERGETICS, MECHANISM];
-    for (file, text) in files.iter().zip(texts) {
-        assert_eq!(rt; file.as_slice(), text.as_bytes());
-    }
-    Ok(())
-}
-
-#[test]
-fn files_of_deck_99(rt: HostRuntime) -> Result<(), Fail> {
-    let files = make(rt.alloc(), 99)?;
-    let texts = [LAST_SIMULATION, LAST_LATTICE, ENERGETICS, MECHANISM];
-    for (file, text) in files.iter().zip(texts) {
-        assert_eq!(rt; file.as_slice(), text.as_bytes());
+fn files_of_the_first_and_the_last_deck(rt: HostRuntime) -> Result<(), Fail> {
+    // The number of a deck, its simulation file and its lattice file.
+    const CASES: &[(u32, &str, &str)] = &[
+        (0, FIRST_SIMULATION, FIRST_LATTICE),
+        (99, LAST_SIMULATION, LAST_LATTICE),
+    ];
+    for (number, simulation, lattice) in CASES {
+        let files = make(rt.alloc(), *number)?;
+        let texts = [*simulation, *lattice, ENERGETICS, MECHANISM];
+        for (file, text) in files.iter().zip(texts) {
+            assert_eq!(rt; file.as_slice(), text.as_bytes(), "deck {number}");
+        }
     }
     Ok(())
 }
