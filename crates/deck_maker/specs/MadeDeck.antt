@@ -50,7 +50,7 @@ made_lattice number =
     ++ codes "rectangular_periodic 1.0 " ++ decimal (made_side number) ++ codes " " ++ decimal (made_side number) ++ codes "\n"
     ++ codes "end_lattice\n"
 
--- energetics_input.dat, a cluster a line
+-- energetics_input.dat; each cluster is on one line here
 unfoldable pub made_energetics : List ℕ
 made_energetics =
     codes "energetics\n"
@@ -60,7 +60,7 @@ made_energetics =
     ++ codes "cluster O_O_pair\nsites 2\nneighboring 1-2\nlattice_state\n1 O* 1\n2 O* 1\ngraph_multiplicity 2\ncluster_eng 0.15\nend_cluster\n"
     ++ codes "end_energetics\n"
 
--- mechanism_input.dat: of each step the head, the states before and after, and the rate
+-- mechanism_input.dat; each step is on three lines here: its head, its states before and after, and its rate
 unfoldable pub made_mechanism : List ℕ
 made_mechanism =
     codes "mechanism\n"
