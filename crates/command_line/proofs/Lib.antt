@@ -1,3 +1,4 @@
 pub mod OptionReads
 pub mod Numbers
+pub mod Modes
 pub mod Rows

@@ -1,41 +1,44 @@
 -- The numbers that the matches of kmc's command have.
-use Rattle.std.proofs.Common.{◌≡◌, ◌∙◌, ◌<◌, ◌≤◌, ℕ, true, false, zero, suc, refl, sym, ap, subst, arith, List, [], ◌∷◌, length, map, codes, Option, Some, None, is_some, not, inl, inr}
+use Rattle.std.proofs.Common.{◌≡◌, ◌∙◌, ◌<◌, ◌≤◌, ◌&&◌, ℕ, Bool, true, false, zero, suc, refl, sym, ap, subst, arith, List, [], ◌∷◌, length, map, codes, Option, Some, None, not, inl, inr}
 use Rattle.std.specs.List.{list_all, slice_index_or}
-use Rattle.std.specs.Prelude.{◌^◌, ◌≢◌, ◌⊎◌, Result, Ok, Err, option_and_then, unwrap_or}
+use Rattle.std.specs.Prelude.{◌^◌, ◌≢◌, ◌⊎◌, Result, Ok, Err, nat_lt}
+use Rattle.std.specs.Option.{ForSome}
 use Rattle.std.specs.Str.{bytes_eq}
 use Rattle.std.specs.Str.Parse.{ParsesUnsigned}
 use Rattle.std.specs.Borrow.{Bor}
-use Rattle.std.proofs.lemmas.Bool.{ne_eqb}
-use Rattle.std.proofs.lemmas.List.{length-map}
-use Rattle.clap.specs.declared.builder.range.ValueRange.{ValueRange}
-use Rattle.clap.proofs.SimpleLemmas.{is_false, is_nil, plain_fields}
-use Rattle.clap.proofs.TakesLemmas.{each_rule}
-use Rattle.clap.proofs.WalkLemmas.{both}
+use Rattle.std.proofs.lemmas.Bool.{ltb-true, ne_eqb}
+use Rattle.std.proofs.lemmas.List.{get_or-map, length-map}
+use Rattle.std.proofs.lemmas.List.Folds.{list_all_at}
+use Rattle.clap.proofs.FaultLemmas.{free_args}
 use Rattle.clap.proofs.OnLiterals.{clap_on_literals}
-use Rattle.clap.specs.Built.{IsParsedFrom, IsPlain, IsPlainArg}
-use Rattle.clap.specs.Facts.{args_of, groups_of, unwrap_or_range}
-use Rattle.clap.specs.Faults.{fault_of, is_simple_and_free}
-use Rattle.clap.specs.Matches.{ReadsOne, found_of, one_text}
-use Rattle.clap.specs.Simple.{App, app_of, is_simple, matches_of, shape_of}
+use Rattle.clap.proofs.SimpleLemmas.{all_simple, ready_simple, simple_groups}
+use Rattle.clap.proofs.WalkLemmas.{both, one_text-rows}
+use Rattle.clap.specs.Built.{IsParsedFrom, IsPlain}
+use Rattle.clap.specs.Facts.{args_of, unwrap_or_range}
+use Rattle.clap.specs.Faults.{fault_of, has_free_rules, is_simple_and_free}
 use Rattle.clap.specs.Kinds.{IsAmong, Kinds}
+use Rattle.clap.specs.Matches.{ReadsOne, found_of, one_text}
+use Rattle.clap.specs.Simple.{App, IsSimple, app_of, is_ready, is_ready_leaf, is_simple, matches_of}
 use Rattle.clap.specs.Texts.{items_of}
-use Rattle.clap.proofs.WalkLemmas.{one_text-rows}
-use Rattle.clap.specs.declared.error.kind.ErrorKind.{ErrorKind}
-use Rattle.clap.specs.declared.error.kind.ErrorKind.TheVariants.{OutOfMemory}
-use Rattle.clap.specs.declared.parser.matches.Found.{Found}
 use Rattle.clap.specs.Values.{IsUnsignedIn}
-use Rattle.clap.specs.Walk.{Row, Rule, Text, first_of, is_empty, is_free_arg, is_simple_arg, one_of, rule_of, rows_of, texts}
+use Rattle.clap.specs.Walk.{Row, Rule, Text, is_empty, one_of, rows_of, rule_of, texts}
 use Rattle.clap.specs.declared.builder.arg.Arg.{Arg}
 use Rattle.clap.specs.declared.builder.command.Command.{Command}
-use Rattle.clap.specs.declared.builder.command.Command.TheViews.{out-Command}
+use Rattle.clap.specs.declared.builder.range.ValueRange.{ValueRange}
+use Rattle.clap.specs.declared.builder.value_parser.ValueParser.{ValueParser}
 use Rattle.clap.specs.declared.builder.value_parser.ValueParser.TheVariants.{Unsigned}
+use Rattle.clap.specs.declared.error.kind.ErrorKind.{ErrorKind}
+use Rattle.clap.specs.declared.error.kind.ErrorKind.TheVariants.{OutOfMemory}
 use Rattle.clap.specs.declared.parser.matches.ArgMatches.{ArgMatches}
-use Rattle.command_line.proofs.OptionReads.{IsOption, arg_at, default_reads}
-use Rattle.command_line.specs.Grammar.{command_line, kmc_line, line_of, mode_of, mode_rule, number_of, number_rule, option_number}
+use Rattle.clap.specs.declared.parser.matches.Found.{Found}
+use Rattle.command_line.proofs.OptionReads.{IsOption, IsOwnArg, arg_at, default_reads, text_reads}
+use Rattle.command_line.specs.Grammar.{command_line, deck_rule, kmc_line, line_of, mode_in, mode_rule, number_in, number_of, number_rule, option_number}
 use Rattle.command_line.specs.declared.line.Mode.{Mode}
-use Rattle.command_line.specs.declared.line.TheConstants.{MAX_SPREAD, MAX_WORKERS}
+use Rattle.command_line.specs.declared.line.TheConstants.{MAX_DECK, MAX_SPREAD, MAX_WORKERS}
 
--- clap's clauses speak of kmc's command
+-- ---- kmc's command
+
+-- clap's clauses speak of it
 pub line_is_simple : is_simple kmc_line ≡ true
 unfolding clap_on_literals kmc_line
 line_is_simple = refl
@@ -44,187 +47,173 @@ pub line_is_free : is_simple_and_free kmc_line ≡ true
 unfolding clap_on_literals kmc_line
 line_is_free = refl
 
-is_none : {X : Type 0} (o : Option X) → not (is_some o) ≡ true → o ≡ None
-is_none None e = refl
-is_none (Some x) e =
-    let bad : false ≡ true = e in
-    cc
-
--- what the test of an argument's rule says of the argument
-simple_parts : (a : Arg) → is_simple_arg a ≡ true → (a.overrides.items ≡ []) × (a.default_vals_ifs.items ≡ []) × (a.groups.items ≡ []) × (a.val_delim ≡ None)
-simple_parts a simple =
-    let p = both (is_empty a.overrides.items) _ simple in
-    let q = both (is_empty a.default_vals_ifs.items) _ p.1 in
-    let r = both (is_empty a.groups.items) _ q.1 in
-    let s = both (not (is_some a.val_delim)) _ r.1 in
-    (is_nil _ p.0, is_nil _ q.0, is_nil _ r.0, is_none _ s.0)
-
-plain_arg : (a : Arg) → is_simple_arg a ≡ true → is_free_arg a ≡ true → IsPlainArg a
-plain_arg a simple free =
-    let p = simple_parts a simple in
-    let f = both (not a.exclusive) _ free in
-    let g = both (is_empty a.conflicts.items) _ f.1 in
-    (is_false _ f.0, is_nil _ g.0, p.0, p.2)
-
-plain_command : (c : Command) → list_all (λ r. r.is_simple) (map rule_of (args_of c)) ≡ true → list_all (λ r. r.is_free) (map rule_of (args_of c)) ≡ true
-    → groups_of c ≡ [] → IsPlain c
-plain_command c simple free groups = (
-  λ k d lt. plain_arg (slice_index_or (args_of c) k d) (each_rule (λ r. r.is_simple) (args_of c) simple k d lt) (each_rule (λ r. r.is_free) (args_of c) free k d lt),
-  groups,
-)
-
-rule_at : (xs : List Arg) (k : ℕ) (d : Arg) → k < length xs → rule_of (slice_index_or xs k d) ≡ slice_index_or (map rule_of xs) k (rule_of d)
-rule_at [] k d lt = absurd (omega arith)
-rule_at (x ∷ xs) zero d lt = refl
-rule_at (x ∷ xs) (suc k) d lt = rule_at xs k d (omega arith)
-
-some_text : (xs : List (Bor Text)) (t : Text) → texts xs ≡ t ∷ [] → 0 < length xs
-some_text [] t e = cc
-some_text (x ∷ xs) t e = omega arith
-
-some_arg : (xs : List Arg) → 0 < length xs → Arg
-some_arg [] lt = absurd (omega arith)
-some_arg (x ∷ xs) lt = x
-
--- no two of the rules have this name, and building adds none with it
-record IsOwnName (rs : List Rule) (k : ℕ) (name : Text) : Type 0 where
-  within : k < length rs
-  unique : (j : ℕ) (r : Rule) → j < length rs → bytes_eq (slice_index_or rs j r).id name ≡ true → j ≡ k
-  named : name ≡ [] → ⊥
-  no_help : name ≡ codes "help" → ⊥
-  no_version : name ≡ codes "version" → ⊥
-
-is_option : (c : Command) (rs : List Rule) → map rule_of (args_of c) ≡ rs → (k : ℕ) (d : Arg) (name : Text) (most : ℕ) (default : Text) → IsOwnName rs k name
-    → rule_of (arg_at c k d) ≡ number_rule name most default → IsOption c k d (Unsigned 1 most)
-is_option c rs rules k d name most default own e =
-    let id : (arg_at c k d).id.now ≡ name = ap (λ (r : Rule). r.id) e in
-    let simple : is_simple_arg (arg_at c k d) ≡ true = ap (λ (r : Rule). r.is_simple) e in
-    let range : (arg_at c k d).num_vals ≡ None = ap (λ (r : Rule). r.range) e in
-    let count : length (args_of c) ≡ length rs = sym (length-map (args_of c) rule_of) ∙ ap length rules in
-    record {
-      within = omega (arith, own.within);
-      set = ap (λ (r : Rule). r.action) e;
-      delimiter = (simple_parts (arg_at c k d) simple).3;
-      least = subst (λ (r : Option ValueRange). 1 ≤ (unwrap_or_range r).start_inclusive) (sym range) (omega arith);
-      default = ((simple_parts (arg_at c k d) simple).1, some_text (items_of (arg_at c k d).default_vals) default (ap (λ (r : Rule). r.defaults) e));
-      unique = λ j x lt same.
-          let there : (arg_at c j x).id.now ≡ (slice_index_or rs j (rule_of x)).id =
-          ap (λ (r : Rule). r.id) (rule_at (args_of c) j x lt ∙ ap (λ (l : List Rule). slice_index_or l j (rule_of x)) rules) in
-          own.unique j (rule_of x) (omega arith) (rw (← there, ← id) same);
-      named = λ empty. own.named (sym id ∙ empty);
-      own = λ auto. elim auto [ inl h ↦ own.no_help (sym id ∙ h) | inr h ↦ own.no_version (sym id ∙ h) ];
-      parser = ap (λ (r : Rule). r.parser) e;
-    }
-
-number_reads : (c : Command) (m : ArgMatches) → IsParsedFrom c m → IsPlain c → (out-Command c).has_globals ≡ false
-    → (rs : List Rule) → map rule_of (args_of c) ≡ rs → (k : ℕ) (name : Text) (most : ℕ) (default : Text) → IsOwnName rs k name
-    → ((r : Rule) → slice_index_or rs k r ≡ number_rule name most default)
-    → (t : List ℕ) × (one_text (found_of m) name ≡ Some t) × IsUnsignedIn 1 most t
-number_reads c m p plain globals rs rules k name most default own at =
-    let count : length (args_of c) ≡ length rs = sym (length-map (args_of c) rule_of) ∙ ap length rules in
-    let within : k < length (args_of c) = omega (arith, own.within) in
-    let d = some_arg (args_of c) (omega arith) in
-    let e : rule_of (arg_at c k d) ≡ number_rule name most default =
-    rule_at (args_of c) k d within ∙ (ap (λ (l : List Rule). slice_index_or l k (rule_of d)) rules ∙ at (rule_of d)) in
-    let read = default_reads c m p k d (Unsigned 1 most) (is_option c rs rules k d name most default own e) plain globals in
-    let id : (arg_at c k d).id.now ≡ name = ap (λ (r : Rule). r.id) e in
-    (read.0, subst (λ (n : List ℕ). one_text (found_of m) n ≡ Some read.0) id read.1, read.2)
-
-abbrev workers_rule : Rule
-workers_rule = number_rule (codes "workers") MAX_WORKERS (codes "1")
-
-abbrev spread_rule : Rule
-spread_rule = number_rule (codes "spread") MAX_SPREAD (codes "64")
-
 abbrev line_rules : List Rule
-line_rules = mode_rule ∷ workers_rule ∷ spread_rule ∷ []
+line_rules = mode_rule ∷ deck_rule ∷ number_rule (codes "workers") MAX_WORKERS (codes "1") ∷ number_rule (codes "spread") MAX_SPREAD (codes "64") ∷ []
 
 rules_of_line : (c : Command) → app_of c ≡ kmc_line → map rule_of (args_of c) ≡ line_rules
 unfolding kmc_line
 rules_of_line c e = ap (λ (a : App). a.top.rules) e
 
-plain_of_line : (c : Command) → app_of c ≡ kmc_line → (shape_of c).is_plain ≡ true
+simple_line : (c : Command) → app_of c ≡ kmc_line → IsSimple c
 unfolding kmc_line
-plain_of_line c e = ap (λ (a : App). a.top.is_plain) e
+simple_line c e = ready_simple c (ap (λ (a : App). is_ready a.top) e) (ap (λ (a : App). list_all is_ready_leaf a.subs) e)
 
-abbrev first_byte : List ℕ → ℕ
-first_byte [] = 0
-first_byte (b ∷ bs) = b
+plain_line : (c : Command) → app_of c ≡ kmc_line → IsPlain c
+unfolding kmc_line
+plain_line c e =
+    let simple = simple_line c e in
+    let free = free_args c simple (ap (λ (a : App). has_free_rules a.top) e) in
+    let groups = simple_groups c (ap (λ (a : App). all_simple a.top.rules) e) in
+    (λ k d lt. ((free k d lt).exclusive, (free k d lt).conflicts, (free k d lt).overrides, groups k d lt), simple.groups)
 
-workers_own : IsOwnName line_rules 1 (codes "workers")
-workers_own = record {
-  within = omega arith;
-  unique = unique;
-  named = λ e. let bad : 119 ≡ 0 = ap first_byte e in absurd (omega arith);
-  no_help = λ e. let bad : 119 ≡ 104 = ap first_byte e in absurd (omega arith);
-  no_version = λ e. let bad : 119 ≡ 118 = ap first_byte e in absurd (omega arith);
-}
-  where
-    unique : (j : ℕ) (r : Rule) → j < 3 → bytes_eq (slice_index_or line_rules j r).id (codes "workers") ≡ true → j ≡ 1
-    unique zero r lt same =
-        let bad : false ≡ true = same in
-        cc
-    unique (suc zero) r lt same = refl
-    unique (suc (suc zero)) r lt same =
-        let bad : false ≡ true = same in
-        cc
-    unique (suc (suc (suc j))) r lt same = absurd (omega arith)
+-- ---- an argument by its rule
 
-spread_own : IsOwnName line_rules 2 (codes "spread")
-spread_own = record {
-  within = omega arith;
-  unique = unique;
-  named = λ e. let bad : 115 ≡ 0 = ap first_byte e in absurd (omega arith);
-  no_help = λ e. let bad : 115 ≡ 104 = ap first_byte e in absurd (omega arith);
-  no_version = λ e. let bad : 115 ≡ 118 = ap first_byte e in absurd (omega arith);
-}
-  where
-    unique : (j : ℕ) (r : Rule) → j < 3 → bytes_eq (slice_index_or line_rules j r).id (codes "spread") ≡ true → j ≡ 2
-    unique zero r lt same =
-        let bad : false ≡ true = same in
-        cc
-    unique (suc zero) r lt same =
-        let bad : false ≡ true = same in
-        cc
-    unique (suc (suc zero)) r lt same = refl
-    unique (suc (suc (suc j))) r lt same = absurd (omega arith)
+-- no rule but the kth has the name
+abbrev is_only : Text → ℕ → List Rule → Bool
+is_only name k [] = true
+is_only name zero (r ∷ rs) = list_all (λ x. not (bytes_eq x.id name)) rs
+is_only name (suc k) (r ∷ rs) = not (bytes_eq r.id name) && is_only name k rs
 
-line_plain : (c : Command) → app_of c ≡ kmc_line → IsPlain c
-line_plain c e = plain_command c (ap (list_all (λ r. r.is_simple)) (rules_of_line c e)) (ap (list_all (λ r. r.is_free)) (rules_of_line c e))
-    (plain_fields c (plain_of_line c e)).groups
+only_at : (name : Text) (k : ℕ) (rs : List Rule) → is_only name k rs ≡ true → (j : ℕ) (r : Rule) → j < length rs
+    → bytes_eq (slice_index_or rs j r).id name ≡ true → j ≡ k
+only_at name k [] only j r lt same = absurd (omega arith)
+only_at name zero (x ∷ xs) only zero r lt same = refl
+only_at name zero (x ∷ xs) only (suc j) r lt same =
+    let bad : false ≡ true = sym (list_all_at (λ y. not (bytes_eq y.id name)) xs j r (omega arith) (ap not same)) ∙ only in
+    cc
+only_at name (suc k) (x ∷ xs) only zero r lt same =
+    let bad : false ≡ true = sym (ap not same) ∙ (both _ _ only).0 in
+    cc
+only_at name (suc k) (x ∷ xs) only (suc j) r lt same = ap suc (only_at name k xs (both _ _ only).1 j r (omega arith) same)
+
+-- the kth rule has the name alone, and building adds none with it
+abbrev is_own : Text → ℕ → List Rule → Bool
+is_own name k rs = is_only name k rs
+    && (nat_lt k (length rs) && (not (is_empty name) && (not (bytes_eq name (codes "help")) && not (bytes_eq name (codes "version")))))
+
+own_arg : (c : Command) (rs : List Rule) → map rule_of (args_of c) ≡ rs → (k : ℕ) (d : Arg) (q : ValueParser) (r : Rule) → is_own r.id k rs ≡ true
+    → rule_of (arg_at c k d) ≡ r → r.parser ≡ Some q → IsOwnArg c k d q
+own_arg c rs rules k d q r own is parser =
+    let only = both (is_only r.id k rs) _ own in
+    let within = both (nat_lt k (length rs)) _ only.1 in
+    let named = both (not (is_empty r.id)) _ within.1 in
+    let added = both (not (bytes_eq r.id (codes "help"))) _ named.1 in
+    let id : (arg_at c k d).id.now ≡ r.id = ap (λ (x : Rule). x.id) is in
+    let count : length (args_of c) ≡ length rs = sym (length-map (args_of c) rule_of) ∙ ap length rules in
+    let inside : k < length rs = ltb-true _ _ within.0 in
+    record {
+      within = omega arith;
+      unique = λ j x lt same.
+          let there : slice_index_or rs j (rule_of x) ≡ rule_of (arg_at c j x) =
+          ap (λ (l : List Rule). slice_index_or l j (rule_of x)) (sym rules) ∙ get_or-map rule_of (args_of c) j x (rule_of x) lt in
+          only_at r.id k rs only.0 j (rule_of x) (omega arith) (rw (there, ← id) same);
+      named = λ empty. let bad : false ≡ true = rw (← id, empty) at named.0 in cc;
+      own = λ auto. elim auto [
+        | inl help ↦ let bad : false ≡ true = rw (← id, help) at added.0 in cc
+        | inr version ↦ let bad : false ≡ true = rw (← id, version) at added.1 in cc
+      ];
+      parser = ap (λ (x : Rule). x.parser) is ∙ parser;
+    }
+
+some_arg : (xs : List Arg) → 0 < length xs → Arg
+some_arg [] lt = absurd (omega arith)
+some_arg (x ∷ xs) lt = x
+
+-- the kth argument of kmc's command has the kth of its rules
+line_arg : (c : Command) → app_of c ≡ kmc_line → (k : ℕ) → k < 4
+    → (d : Arg) × (k < length (args_of c)) × (rule_of (arg_at c k d) ≡ slice_index_or line_rules k (rule_of d))
+line_arg c e k lt =
+    let rules = rules_of_line c e in
+    let count : length (args_of c) ≡ 4 = sym (length-map (args_of c) rule_of) ∙ ap length rules in
+    let d = some_arg (args_of c) (omega arith) in
+    let within : k < length (args_of c) = omega arith in
+    (d, within, sym (get_or-map rule_of (args_of c) k d (rule_of d) within) ∙ ap (λ (l : List Rule). slice_index_or l k (rule_of d)) rules)
+
+-- ---- the numbers of the options, and of a made deck
+
+some_text : (xs : List (Bor Text)) (t : Text) → texts xs ≡ t ∷ [] → 0 < length xs
+some_text [] t e = cc
+some_text (x ∷ xs) t e = omega arith
+
+option_reads : (c : Command) (m : ArgMatches) → app_of c ≡ kmc_line → IsParsedFrom c m → (k : ℕ) (name : Text) (most : ℕ) (default : Text) → k < 4
+    → is_own name k line_rules ≡ true → ((r : Rule) → slice_index_or line_rules k r ≡ number_rule name most default)
+    → (t : List ℕ) × (one_text (found_of m) name ≡ Some t) × IsUnsignedIn 1 most t
+option_reads c m e p k name most default lt own at =
+    let arg = line_arg c e k lt in
+    let d = arg.0 in
+    let simple = simple_line c e in
+    let is : rule_of (arg_at c k d) ≡ number_rule name most default = arg.2 ∙ at (rule_of d) in
+    let range : (arg_at c k d).num_vals ≡ None = ap (λ (r : Rule). r.range) is in
+    let option : IsOption (arg_at c k d) = record {
+      set = ap (λ (r : Rule). r.action) is;
+      delimiter = (simple.args k d arg.1).delimiter;
+      least = subst (λ (r : Option ValueRange). 1 ≤ (unwrap_or_range r).start_inclusive) (sym range) (omega arith);
+      default = ((simple.args k d arg.1).default_ifs, some_text (items_of (arg_at c k d).default_vals) default (ap (λ (r : Rule). r.defaults) is));
+    } in
+    let read = default_reads c m p k d (Unsigned 1 most) (own_arg c line_rules (rules_of_line c e) k d (Unsigned 1 most) (number_rule name most default) own is refl)
+    option (plain_line c e) simple.globals in
+    (read.0, subst (λ (n : List ℕ). one_text (found_of m) n ≡ Some read.0) (ap (λ (r : Rule). r.id) is) read.1, read.2)
 
 -- where kmc's command takes the words, its options have numbers in their ranges
 pub workers_read : (c : Command) (m : ArgMatches) → app_of c ≡ kmc_line → IsParsedFrom c m
     → (t : List ℕ) × (one_text (found_of m) (codes "workers") ≡ Some t) × IsUnsignedIn 1 MAX_WORKERS t
-workers_read c m e p = number_reads c m p (line_plain c e) (plain_fields c (plain_of_line c e)).globals line_rules (rules_of_line c e)
-    1 (codes "workers") MAX_WORKERS (codes "1") workers_own (λ r. refl)
+workers_read c m e p = option_reads c m e p 2 (codes "workers") MAX_WORKERS (codes "1") (omega arith) refl (λ r. refl)
 
 pub spread_read : (c : Command) (m : ArgMatches) → app_of c ≡ kmc_line → IsParsedFrom c m
     → (t : List ℕ) × (one_text (found_of m) (codes "spread") ≡ Some t) × IsUnsignedIn 1 MAX_SPREAD t
-spread_read c m e p = number_reads c m p (line_plain c e) (plain_fields c (plain_of_line c e)).globals line_rules (rules_of_line c e)
-    2 (codes "spread") MAX_SPREAD (codes "64") spread_own (λ r. refl)
+spread_read c m e p = option_reads c m e p 3 (codes "spread") MAX_SPREAD (codes "64") (omega arith) refl (λ r. refl)
 
--- a number in its range is what `u32` reads
-pub unsigned_read : {E : Type 0} (G : List ℕ → Result ℕ E → Type 0) (t : List ℕ) (r : Option ℕ) → ReadsOne G t r
-    → ((u : List ℕ) (x : Result ℕ E) → G u x → ParsesUnsigned 32 10 u x) → IsUnsignedIn 1 4294967295 t → r ≡ Some (number_of t)
-unsigned_read G t (Some v) read only fits = ap Some (only t (Ok v) read).1
-unsigned_read G t None read only fits =
+-- and the number after the required word, if there is one, is in its range
+pub deck_read : (c : Command) (m : ArgMatches) → app_of c ≡ kmc_line → IsParsedFrom c m
+    → ForSome (one_text (found_of m) (codes "number")) (λ t. IsUnsignedIn 0 MAX_DECK t)
+deck_read c m e p t read =
+    let arg = line_arg c e 1 (omega arith) in
+    let d = arg.0 in
+    let is : rule_of (arg_at c 1 d) ≡ deck_rule = arg.2 in
+    let id : (arg_at c 1 d).id.now ≡ codes "number" = ap (λ (r : Rule). r.id) is in
+    let got = text_reads c m p 1 d (Unsigned 0 MAX_DECK) (own_arg c line_rules (rules_of_line c e) 1 d (Unsigned 0 MAX_DECK) deck_rule refl is refl)
+    (plain_line c e) (simple_line c e).globals t (subst (λ (n : List ℕ). one_text (found_of m) n ≡ Some t) (sym id) read) in
+    subst (λ (u : List ℕ). IsUnsignedIn 0 MAX_DECK u) got.1 got.2
+
+-- a number in the range of `u32` is what `u32` reads
+unsigned_read : {E : Type 0} (G : List ℕ → Result ℕ E → Type 0) (low : ℕ) (t : List ℕ) (r : Option ℕ) → ReadsOne G t r
+    → ((u : List ℕ) (x : Result ℕ E) → G u x → ParsesUnsigned 32 10 u x) → IsUnsignedIn low 4294967295 t → r ≡ Some (number_of t)
+unsigned_read G low t (Some v) read only fits = ap Some (only t (Ok v) read).1
+unsigned_read G low t None read only fits =
     let small : number_of t < 2 ^ 32 = omega (arith, fits.3) in
     absurd (only t (Err read.0) read.1 (fits.0, small))
+
+-- so `get_one` gives the number of an argument
+pub number_read : {E : Type 0} (G : List ℕ → Result ℕ E → Type 0) (f : Found) (name : Text) (r : Option ℕ) → (one_text f name ≡ None → r ≡ None)
+    → ((t : List ℕ) → one_text f name ≡ Some t → ReadsOne G t r) → ((u : List ℕ) (x : Result ℕ E) → G u x → ParsesUnsigned 32 10 u x)
+    → ForSome (one_text f name) (λ t. IsUnsignedIn 0 4294967295 t) → r ≡ number_in name (rows_of f)
+number_read G f name r none value only fits = go (one_text f name) refl
+  where
+    go : (x : Option Text) → one_text f name ≡ x → r ≡ number_in name (rows_of f)
+    go None e =
+        let row : one_of name (rows_of f) ≡ None = sym (one_text-rows f name) ∙ e in
+        rw row (none e)
+    go (Some t) e =
+        let row : one_of name (rows_of f) ≡ Some t = sym (one_text-rows f name) ∙ e in
+        rw row (unsigned_read G 0 t r (value t e) only (fits t e))
+
+pub number_of_text : (f : Found) (name t : Text) → one_text f name ≡ Some t → number_in name (rows_of f) ≡ Some (number_of t)
+number_of_text f name t read =
+    let row : one_of name (rows_of f) ≡ Some t = sym (one_text-rows f name) ∙ read in
+    rw row refl
 
 -- the number of an option with a text in its range
 pub number_within : (f : Found) (name : Text) (most : ℕ) (t : Text) → one_text f name ≡ Some t → IsUnsignedIn 1 most t
     → (1 ≤ option_number name (rows_of f)) × (option_number name (rows_of f) ≤ most)
-number_within f name most t read within =
-    let row : one_of name (rows_of f) ≡ Some t = sym (one_text-rows f name) ∙ read in
-    let is : option_number name (rows_of f) ≡ number_of t = ap (λ o. number_of (unwrap_or o [])) row in
-    rw is (within.2, within.3)
+number_within f name most t read within = rw (number_of_text f name t read) (within.2, within.3)
+
+-- ---- what the words ask for
 
 some_kind : (kinds : Kinds) (k : ErrorKind) → IsAmong k kinds → is_empty kinds ≡ false
 some_kind [] k among = absurd among
 some_kind (x ∷ xs) k among = ne_eqb _ _ (omega arith)
 
--- words that clap refuses, where that is not for want of memory, are no line
+-- words that clap refuses, where it is not out of memory, are no line
 pub refused_line : (words : List Text) (k : ErrorKind) → (k ≡ OutOfMemory) ⊎ IsAmong k (fault_of kmc_line words) → k ≢ OutOfMemory → None ≡ command_line words
 unfolding command_line
 refused_line words k (inl memory) other = absurd (other memory)
@@ -235,10 +224,10 @@ pub taken_line : (words : List Text) (rows : List Row) → fault_of kmc_line wor
 unfolding command_line
 taken_line words rows taken is = rw (taken, is) refl
 
-pub no_line : (rows : List Row) → option_and_then mode_of (first_of (codes "mode") rows) ≡ None → line_of rows ≡ None
+pub no_line : (rows : List Row) → mode_in rows ≡ None → line_of rows ≡ None
 no_line rows none = rw none refl
 
-pub some_line : (rows : List Row) (mode : Mode) (workers spread : ℕ) → option_and_then mode_of (first_of (codes "mode") rows) ≡ Some mode
+pub some_line : (rows : List Row) (mode : Mode) (workers spread : ℕ) → mode_in rows ≡ Some mode
     → workers ≡ option_number (codes "workers") rows → spread ≡ option_number (codes "spread") rows
     → Some (record { mode = mode; workers = workers; spread = spread }) ≡ line_of rows
 some_line rows mode workers spread some workers_is spread_is = rw (some, workers_is, spread_is) refl

@@ -6,6 +6,9 @@ pub const MAX_WORKERS: u32 = 64;
 /// The greatest spread.
 pub const MAX_SPREAD: u32 = 1_000_000;
 
+/// The greatest number of a made deck.
+pub const MAX_DECK: u32 = 99;
+
 /// What the program is asked to do.
 #[derive(Clone, Copy, Debug, PartialEq, Eq)]
 pub enum Mode {
@@ -13,6 +16,8 @@ pub enum Mode {
     Run,
     /// Check the deck and run nothing.
     Check,
+    /// Make the deck of this number, from 0 to `MAX_DECK`, and run it.
+    Sample(u32),
 }
 
 /// What the words of a command line ask for.

@@ -8,7 +8,7 @@ pub returns-in-Some : goal.returns-in-Some
 returns-in-Some c =
     let first : first_of (codes "mode") (rows_of (found_of c.args.matches.now)) ≡ Some c.in-Some.word.now =
     sym (first_value-rows (found_of c.args.matches.now) (codes "mode")) ∙ (sym c.get_str.ensures ∙ ap (option_map (λ s. s.now)) c.in-Some.is) in
-    rw first c.mode_of.ensures
+    rw (first, ← c.number_in-number.ensures) c.mode_of.ensures
 
 pub returns-in-None : goal.returns-in-None
 returns-in-None c =
