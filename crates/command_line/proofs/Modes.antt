@@ -12,7 +12,7 @@ use Rattle.command_line.proofs.Numbers.{number_of_text}
 use Rattle.command_line.specs.Grammar.{MayMake, mode_in, mode_of, number_in}
 use Rattle.command_line.specs.declared.line.Mode.{Mode}
 use Rattle.command_line.specs.declared.line.Mode.TheVariants.{Check, Run, Sample}
-use Rattle.command_line.specs.declared.line.TheConstants.{MAX_DECK}
+use Rattle.deck_maker.specs.declared.decks.TheConstants.{MAX_DECK}
 
 abbrev IsDeck : ℕ → Type 0
 IsDeck n = n ≤ MAX_DECK

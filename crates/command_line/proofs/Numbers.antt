@@ -34,7 +34,8 @@ use Rattle.clap.specs.declared.parser.matches.Found.{Found}
 use Rattle.command_line.proofs.OptionReads.{IsOption, IsOwnArg, arg_at, default_reads, text_reads}
 use Rattle.command_line.specs.Grammar.{command_line, deck_rule, kmc_line, line_of, mode_in, mode_rule, number_in, number_of, number_rule, option_number}
 use Rattle.command_line.specs.declared.line.Mode.{Mode}
-use Rattle.command_line.specs.declared.line.TheConstants.{MAX_DECK, MAX_SPREAD, MAX_WORKERS}
+use Rattle.command_line.specs.declared.line.TheConstants.{MAX_SPREAD, MAX_WORKERS}
+use Rattle.deck_maker.specs.declared.decks.TheConstants.{MAX_DECK}
 
 -- ---- kmc's command
 

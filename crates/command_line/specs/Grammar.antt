@@ -11,7 +11,8 @@ use Rattle.clap.specs.declared.builder.value_parser.ValueParser.TheVariants.{Uns
 use Rattle.command_line.specs.declared.line.CommandLine.{CommandLine}
 use Rattle.command_line.specs.declared.line.Mode.{Mode}
 use Rattle.command_line.specs.declared.line.Mode.TheVariants.{Run, Check, Sample}
-use Rattle.command_line.specs.declared.line.TheConstants.{MAX_DECK, MAX_SPREAD, MAX_WORKERS}
+use Rattle.command_line.specs.declared.line.TheConstants.{MAX_SPREAD, MAX_WORKERS}
+use Rattle.deck_maker.specs.declared.decks.TheConstants.{MAX_DECK}
 
 -- the word that says what to do, as in `run`: the first word that belongs to no option. It is required
 abbrev pub mode_rule : Rule

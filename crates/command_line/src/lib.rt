@@ -4,7 +4,8 @@
 //! The words are those after the program's name. `clap` reads them, by the one command that `specs/Grammar.antt` writes out
 //! as plain data: a required word, a number that may follow it, and the options `--workers` and `--spread`, each with a whole
 //! number. There is no help and no version to ask for. `read_words` answers `None` for words outside this grammar, and its
-//! only error is that it is out of memory. The crate uses `kmc_base` for that error alone.
+//! only error is that it is out of memory. The crate uses `kmc_base` for that error alone, and
+//! `deck_maker` for the greatest number of a deck.
 #![tactic(auto)]
 
 mod line;
@@ -12,5 +13,6 @@ mod reading;
 #[cfg(test)]
 mod tests;
 
-pub use line::{CommandLine, MAX_DECK, MAX_SPREAD, MAX_WORKERS, Mode};
+pub use deck_maker::MAX_DECK;
+pub use line::{CommandLine, MAX_SPREAD, MAX_WORKERS, Mode};
 pub use reading::read_words;

@@ -6,9 +6,6 @@ pub const MAX_WORKERS: u32 = 64;
 /// The greatest spread.
 pub const MAX_SPREAD: u32 = 1_000_000;
 
-/// The greatest number of a made deck.
-pub const MAX_DECK: u32 = 99;
-
 /// What the program is asked to do.
 #[derive(Clone, Copy, Debug, PartialEq, Eq)]
 pub enum Mode {

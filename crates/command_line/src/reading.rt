@@ -4,10 +4,12 @@ ghost use Rattle.std.specs.Option.{ForSome};
 ghost use Rattle.clap.specs.Words.{app_of, found_of, one_text, rows_of};
 ghost use Rattle.clap.specs.Values.{IsUnsignedIn};
 ghost use Rattle.command_line.specs.Grammar.{MayMake, command_line, deck_rule, kmc_line, mode_in, mode_of, mode_rule, number_in, number_rule, option_number};
-ghost use Rattle.command_line.specs.declared.line.TheConstants.{MAX_DECK, MAX_SPREAD, MAX_WORKERS};
+ghost use Rattle.command_line.specs.declared.line.TheConstants.{MAX_SPREAD, MAX_WORKERS};
+ghost use Rattle.deck_maker.specs.declared.decks.TheConstants.{MAX_DECK};
 ghost use Rattle.clap.specs.Walk.{rule_of};
 
-use crate::line::{CommandLine, MAX_DECK, MAX_SPREAD, MAX_WORKERS, Mode};
+use deck_maker::MAX_DECK;
+use crate::line::{CommandLine, MAX_SPREAD, MAX_WORKERS, Mode};
 use clap::builder::ValueParser;
 use clap::error::ErrorKind;
 use clap::{Arg, ArgAction, ArgMatches, Command};

@@ -1,20 +1,37 @@
 -- What the program may answer, and what it leaves in the outputs.
 use Rattle.std.specs.Prelude.{◌≡◌, ◌≢◌, [], List, Option, None, Some, IfSome, Result, Ok, Err}
 use Rattle.command_line.specs.declared.line.Mode.{Mode}
-use Rattle.command_line.specs.declared.line.Mode.TheVariants.{Run, Check}
+use Rattle.command_line.specs.declared.line.Mode.TheVariants.{Run, Check, Sample}
 use Rattle.deck_shape.specs.declared.fault.Fault.{Fault}
+use Rattle.kmc_base.specs.Files.{Files}
 use Rattle.kmc_base.specs.Numbered.{Numbered}
 use Rattle.kmc_base.specs.Outs.{Outs}
 use Rattle.kmc_base.specs.declared.ids.FileId.{FileId}
 use Rattle.kmc_base.specs.declared.ids.OutId.{OutId}
 use Rattle.deck.specs.declared.deck.Deck.{Deck}
+use Rattle.deck_join.specs.Decks.{deck_of_files}
 use Rattle.deck_join.specs.Loads.{IsOfDeck, first_failing}
+use Rattle.deck_join.specs.Texts.{deck_files}
+use Rattle.kmc_run.specs.MadeFiles.{made_folder}
 use Rattle.kmc_run.specs.Samples.{run_writes}
 use Rattle.kmc_run.specs.Writes as writing
 use Rattle.kmc_run.specs.Writes.{Write}
 use Rattle.kmc_run.specs.declared.drive_fault.DriveFault.TheVariants.{WriteFault as WriteFailed, OutOfMemory as NoMemory}
 use Rattle.kmc_run.specs.declared.status.Status.{Status}
 use Rattle.kmc_run.specs.declared.status.Status.TheVariants.{Done, BadWords, Refused, ReadFault, WriteFault, ScreenFault, OutOfMemory}
+
+-- What holds of the deck that a command is of, or of the first fault of its files. These are the files of the folder, if it
+-- reports them, or those of a made deck.
+abbrev pub OfDeck : Mode → Option Files → (Result Deck Fault → Type 0) → Type 0
+OfDeck Run files holds = IfSome files (λ told. holds (deck_of_files told))
+OfDeck Check files holds = IfSome files (λ told. holds (deck_of_files told))
+OfDeck (Sample number) files holds = holds (deck_of_files (made_folder number))
+
+-- the files that a command reads
+abbrev pub files_read : Mode → List FileId
+files_read Run = deck_files
+files_read Check = deck_files
+files_read (Sample number) = []
 
 -- the status with which a command ends, by the text that it has for the screen, if all was done
 abbrev pub ending_of : {X : Type 0} → Result X Status → Status
@@ -47,23 +64,27 @@ abbrev pub failed_write : Status → Option OutId
 failed_write (WriteFault out) = Some out
 failed_write status = None
 
--- What a command may answer, by what its files give. A deck is run or checked: the answer is Done, a fault of reading, of
--- writing where the command writes, or of the screen, or out of memory. Files with a fault are refused with the first, unless
--- reading failed or memory was short.
+-- What a command may answer, by what its files give. A deck is run or checked: the answer is Done, a fault of reading where
+-- the command reads files, of writing where it writes, or of the screen, or out of memory. Files with a fault are refused with
+-- the first, unless reading failed or memory was short.
 abbrev pub MayAnswer : Mode → Result Deck Fault → Status → Type 0
 MayAnswer mode (Ok deck) BadWords = ⊥
 MayAnswer mode (Ok deck) (Refused fault) = ⊥
 MayAnswer Check (Ok deck) (WriteFault out) = ⊥
+MayAnswer (Sample number) (Ok deck) (WriteFault out) = ⊥
+MayAnswer (Sample number) (Ok deck) (ReadFault file) = ⊥
 MayAnswer mode (Ok deck) status = Unit {0}
 MayAnswer mode (Err first) (Refused fault) = fault ≡ first
+MayAnswer (Sample number) (Err first) (ReadFault file) = ⊥
 MayAnswer mode (Err first) (ReadFault file) = Unit {0}
 MayAnswer mode (Err first) OutOfMemory = Unit {0}
 MayAnswer mode (Err first) status = ⊥
 
--- all that a command writes, of a deck: a check writes nothing
+-- all that a command writes, of a deck: only a run writes
 abbrev pub writes_of : Mode → Deck → List Write
 writes_of Run deck = run_writes deck
 writes_of Check deck = []
+writes_of (Sample number) deck = []
 
 -- What these writes leave in the outputs. Done, and after a fault of the screen: all of them are done. A fault of writing, or
 -- out of memory: those before the one that failed, or the first of them. Any other answer: nothing is written.
@@ -79,9 +100,10 @@ abbrev pub Leaves : Mode → Result Deck Fault → Status → Option Outs → Op
 Leaves mode (Ok deck) status before after = LeavesOuts (writes_of mode deck) status before after
 Leaves mode (Err first) status before after = after ≡ before
 
--- A check leaves the outputs as they were, whatever the folder reports, and so does an answer that says that nothing was run.
+-- Only a run changes the outputs, whatever the folder reports, and not if the answer says that nothing was run.
 abbrev pub KeepsOuts : Mode → Status → Option Outs → Option Outs → Type 0
 KeepsOuts Check status before after = after ≡ before
+KeepsOuts (Sample number) status before after = after ≡ before
 KeepsOuts Run BadWords before after = after ≡ before
 KeepsOuts Run (Refused fault) before after = after ≡ before
 KeepsOuts Run (ReadFault file) before after = after ≡ before

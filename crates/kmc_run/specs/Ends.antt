@@ -1,19 +1,21 @@
 -- What is on the screen when the program ends.
-use Rattle.std.specs.Prelude.{◌≡◌, ◌⊎◌, ℕ, ◌-◌, List, [], Option, IfOk, IfSome, get_or, length}
+use Rattle.std.specs.Prelude.{◌≡◌, ◌⊎◌, ℕ, ◌-◌, List, [], ◌++◌, Option, IfOk, codes, get_or, length}
+use Rattle.std.specs.Fmt.{decimal}
 use Rattle.std.specs.Option.{option_map_or}
 use Rattle.command_line.specs.declared.line.Mode.{Mode}
-use Rattle.command_line.specs.declared.line.Mode.TheVariants.{Run, Check}
+use Rattle.command_line.specs.declared.line.Mode.TheVariants.{Run, Check, Sample}
 use Rattle.deck.specs.declared.deck.Deck.{Deck}
-use Rattle.deck_join.specs.Decks.{deck_of_files}
 use Rattle.kmc_base.specs.Files.{Files}
+use Rattle.kmc_core.specs.DeckSystem.{trajectory_of}
 use Rattle.kmc_core.specs.Run.{stop_of}
-use Rattle.kmc_run.specs.Samples.{events_from, time_of}
+use Rattle.kmc_run.specs.Answers.{OfDeck}
+use Rattle.kmc_run.specs.Samples.{events_from, shown_at, time_of}
 use Rattle.kmc_run.specs.declared.status.Status.{Status}
 use Rattle.kmc_run.specs.declared.status.Status.TheVariants.{Done, BadWords, Refused, ReadFault, WriteFault, ScreenFault, OutOfMemory}
 use Rattle.lattice_core.specs.Lattice.{site_count}
 use Rattle.screen_text.specs.Printing.{ScreenState, TookAll, TookFront}
 use Rattle.screen_text.specs.Texts.{deck_text, fault_text, no_memory_text, unread_text, unwritten_text, usage_text}
-use Rattle.zacros_output.specs.Summary.{done_line}
+use Rattle.zacros_output.specs.Summary.{done_line, summary_text}
 
 -- the last event of a run
 abbrev pub last_event : Deck → ℕ
@@ -23,10 +25,21 @@ last_event deck = get_or (events_from deck 0) (length (events_from deck 0) - 1) 
 abbrev pub run_text : Deck → List ℕ
 run_text deck = option_map_or (λ stop. done_line (last_event deck) (time_of deck (last_event deck)) stop) (stop_of deck (last_event deck)) []
 
+-- the first line of the text of a made deck
+abbrev pub sample_line : ℕ → List ℕ
+sample_line number = codes "sample " ++ decimal number ++ codes "\n"
+
+-- the text of a made deck: its number, and the summary of its run
+abbrev pub sample_text : ℕ → Deck → List ℕ
+sample_text number deck =
+    option_map_or (λ stop. option_map_or (λ s. sample_line number ++ summary_text deck (shown_at deck (last_event deck) s.time s) stop)
+    (trajectory_of deck (last_event deck)) []) (stop_of deck (last_event deck)) []
+
 -- the text of a command that has done all, of a deck
 abbrev pub done_text : Mode → Deck → List ℕ
 done_text Run deck = run_text deck
 done_text Check deck = deck_text (site_count deck.chem.graph) (length deck.chem.processes) (length deck.chem.clusters)
+done_text (Sample number) deck = sample_text number deck
 
 -- the text of a status, by the text of what was done
 abbrev pub text_of : List ℕ → Status → List ℕ
@@ -55,9 +68,9 @@ EndsWell Done = Unit {0}
 EndsWell ScreenFault = Unit {0}
 EndsWell status = ⊥
 
--- the text of what was done is that of the deck which the files give, as far as they are reported
+-- the text of what was done is that of the deck that the command is of, as far as it is known
 abbrev pub IsDoneText : Mode → Option Files → List ℕ → Type 0
-IsDoneText mode files done = IfSome files (λ told. IfOk (deck_of_files told) (λ deck. done ≡ done_text mode deck))
+IsDoneText mode files done = OfDeck mode files (λ given. IfOk given (λ deck. done ≡ done_text mode deck))
 
 -- What is on the screen when a command has ended.
 pub record Shown (mode : Mode) (files : Option Files) (status : Status) (before after : ScreenState) : Type 0 where

@@ -1,6 +1,7 @@
 pub mod Answers
 pub mod Ends
 pub mod Given
+pub mod MadeFiles
 pub mod RunSamples
 pub mod Samples
 pub mod Statuses

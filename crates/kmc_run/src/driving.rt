@@ -82,10 +82,16 @@ fn summary_of(alloc: Global, last: &Closed, stop: Stop) -> Result<Summary, OutOf
     })
 }
 
-/// Runs a sound deck to its end, and writes its outputs.
-fn run_deck<F: Folder>(alloc: Global, deck: Deck, folder: &mut F) -> Result<Summary, DriveFault>
+/// Runs a sound deck to its last event, and writes its outputs.
+pub(crate) fn run_to_end<F: Folder>(
+    alloc: Global,
+    deck: Deck,
+    folder: &mut F,
+) -> Result<(Closed, Stop), DriveFault>
     requires { IsSound deck }
-    ensures summary { IfOk result (IsSummary deck) }
+    ensures deck { IfOk result (λ last. last.0.deck ≡ deck) }
+    ensures stop { IfOk result (λ last. stop_of deck last.0.event ≡ Some last.1) }
+    ensures last { IfOk result (λ last. ((es : List ℕ) × (events_from deck 0 ≡ es ++ last.0.event ∷ []))) }
     ensures wrote { Wrote (run_writes deck) result
         (state_by F.files F.outs F.read_faults F.write_faults F.loads folder.old)
         (state_by F.files F.outs F.read_faults F.write_faults F.loads folder.new) }
@@ -95,7 +101,18 @@ fn run_deck<F: Folder>(alloc: Global, deck: Deck, folder: &mut F) -> Result<Summ
         Err(_) => return Err(DriveFault::OutOfMemory),
     };
     write_before(alloc, start.deck(), folder)?;
-    let (last, stop) = run_events(alloc, start, folder)?;
+    run_events(alloc, start, folder)
+}
+
+/// Runs a sound deck to its end, and writes its outputs.
+fn run_deck<F: Folder>(alloc: Global, deck: Deck, folder: &mut F) -> Result<Summary, DriveFault>
+    requires { IsSound deck }
+    ensures summary { IfOk result (IsSummary deck) }
+    ensures wrote { Wrote (run_writes deck) result
+        (state_by F.files F.outs F.read_faults F.write_faults F.loads folder.old)
+        (state_by F.files F.outs F.read_faults F.write_faults F.loads folder.new) }
+{
+    let (last, stop) = run_to_end(alloc, deck, folder)?;
     Ok(summary_of(alloc, &last, stop)?)
 }
 

@@ -12,6 +12,7 @@ mod driving;
 mod ending;
 mod heads;
 mod laws;
+mod made;
 mod program;
 mod samples;
 mod status;

@@ -24,9 +24,10 @@ use std::alloc::Global;
 use zacros_output::{View, history_piece, procstat_piece, specnum_piece};
 
 /// What a sample shows of a run.
-fn view_of(closed: &Closed) -> View<'_>
+pub(crate) fn view_of(closed: &Closed) -> View<'_>
     ensures sites { length result.config.now ≡ site_count closed.now.deck.chem.graph }
     ensures well_formed { IsWellFormed (dentates_in closed.now.deck.book) result.config.now }
+    ensures gas { length result.gas.now ≡ length closed.now.deck.book.gas }
     ensures shown { IsSomeAnd (trajectory_of closed.now.deck closed.now.event)
         (λ s. (time : ℕ) → shown result time ≡ shown_at closed.now.deck closed.now.event time s) }
 {
