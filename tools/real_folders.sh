@@ -3,7 +3,7 @@
 #
 # usage: tools/real_folders.sh PROGRAM
 #
-# Each case is a copy of examples/langmuir, with something in the way. It prints a line for each case, and at last
+# Each case is a copy of examples/langmuir, with something in the way, or an empty folder for a made deck. It prints a line for each case, and at last
 # `real folders: N as expected, M not`; the status is 0 where M is 0.
 set -u
 cd "$(dirname "$0")/.." || exit 1
@@ -45,6 +45,18 @@ complete() {
 
 folder_of words && runs "no command" 2 "kmc: run, check, sample N or schedule N, with --workers W and --spread M"; cd "$OLDPWD"
 folder_of check && runs "a check" 0 "sites 400"$'\n'"processes 2"$'\n'"clusters 0" check; cd "$OLDPWD"
+mkdir "$room/made" && cd "$room/made" &&
+    runs "a made deck" 0 "sample 0
+sites 100
+events 200
+time 0.000220952339300973
+surface CO* 79
+surface O* 7
+gas CO -126
+gas O2 -27
+gas CO2 47
+energy -110.600000000
+stop steps" sample 0; cd "$OLDPWD"
 folder_of missing && rm mechanism_input.dat && runs "a missing file" 3 "fault mechanism_input.dat line 0 kind 1" run; cd "$OLDPWD"
 folder_of unreadable && rm lattice_input.dat && mkdir lattice_input.dat &&
     runs "a folder as an input" 4 "cannot read lattice_input.dat" run; cd "$OLDPWD"

@@ -8,11 +8,11 @@ ghost use Rattle.command_line.specs.declared.line.TheConstants.{MAX_SPREAD, MAX_
 ghost use Rattle.deck_maker.specs.declared.decks.TheConstants.{MAX_DECK};
 ghost use Rattle.clap.specs.Walk.{rule_of};
 
-use deck_maker::MAX_DECK;
 use crate::line::{CommandLine, MAX_SPREAD, MAX_WORKERS, Mode};
 use clap::builder::ValueParser;
 use clap::error::ErrorKind;
 use clap::{Arg, ArgAction, ArgMatches, Command};
+use deck_maker::MAX_DECK;
 use kmc_base::OutOfMemory;
 use std::alloc::{AllocError, Global};
 

@@ -92,9 +92,9 @@ sample_text_is number deck last event stop text same es stops is =
     = told_is (λ s. sample_line number ++ summary_text deck (shown_at deck event s.time s) stop) text (trajectory_of deck event) here in
     told
     ∙ sym (ap (λ o. option_map_or (λ r. option_map_or (λ s. sample_line number ++ summary_text deck (shown_at deck event s.time s) r)
-      (trajectory_of deck event) []) o []) stops)
+    (trajectory_of deck event) []) o []) stops)
     ∙ ap (λ n. option_map_or (λ r. option_map_or (λ s. sample_line number ++ summary_text deck (shown_at deck n s.time s) r)
-      (trajectory_of deck n) []) (stop_of deck n) []) (sym at)
+    (trajectory_of deck n) []) (stop_of deck n) []) (sym at)
 
 -- all writes were done, and then memory ran out
 ended_all : (writes : List Write) (x z : Option Outs) → writing.Done writes x z → writing.Ended writes NoMemory x z

@@ -38,12 +38,7 @@ fn made_folder(alloc: Global, number: u32) -> Result<MemoryFolder, OutOfMemory>
         ],
     )?;
     let none_fails = || Vec::new(alloc);
-    Ok(MemoryFolder::new(
-        files,
-        none_fails(),
-        none_fails(),
-        none_fails(),
-    ))
+    Ok(MemoryFolder::new(files, none_fails(), none_fails(), none_fails()))
 }
 
 /// The text of the run of a made deck, by its last event and why it stops there.
