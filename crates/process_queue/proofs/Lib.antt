@@ -1,0 +1,16 @@
+pub mod ChosenEntries
+pub mod EntrySearch
+pub mod FiledRooms
+pub mod IndexedRooms
+pub mod LeadTrees
+pub mod Leads
+pub mod LeastFirings
+pub mod PartLists
+pub mod QueueEntries
+pub mod RefiledRooms
+pub mod RenewedEntries
+pub mod RoomLists
+pub mod RoomTrees
+pub mod SiteRooms
+pub mod TestParts
+pub mod VecLists
